@@ -1,0 +1,134 @@
+-- One operation on two values that are not negative is one rounding of the exact result, by whichever fractions the operands are written. Assumes nothing.
+use mathlib.Core.Path.{_≡_, refl, sym, ap, _∙_, subst}
+use Prim.Native.Nat.{ℕ, zero, suc, _+_, _-_, _*_, _/_, _%_, _^_, _≤_, _<_, min}
+use native.Mathlib.Nat.{le-trans, mul-one, one-mul, mul-comm, mul-assoc, mul-left-comm, mul-right-comm, mul-pos, zero-mul, lt-irrefl, add-mul, mul-lt-mul-of-pos-right}
+use native.Mathlib.Omega.{arith}
+use mathlib.Core.Bool.{Bool, true, false, not, cond, true≢false}
+use lib.Dec.{T, leb, ltb, eqb, le→leb, eqb→eq, lit<}
+use lib.IntN.{ℤ, pos}
+use lib.Ieee.{Float, nan, inf, fin, Format, binary32, binary64, prec, up, down, low, emax, odd, units, round, neg, sum, add, div, ofInt, inFloat, isNan}
+use lib.Ieee.Fits.{up-pos, down-pos, round-is}
+use lib.Ieee.Exact.{HasValue}
+use lib.Ieee.Back.{round-whole}
+use lib.Ieee.Scale.{round-same}
+use lib.Arith.{digits-div, digits-mod}
+use lib.Ieee.Positive.{first-pos}
+use Rattle.decimal.proofs.Power.{ten-pos, parts, capped}
+
+-- ---- whole numbers up to 2 ^ prec
+pub in-float : (f : Format) (n : ℕ) → n ≤ 2 ^ prec f → T (inFloat f (pos n))
+unfolding inFloat
+in-float f n h = le→leb n (2 ^ prec f) h
+
+pub whole-value : (f : Format) (n : ℕ) → n ≤ 2 ^ prec f → HasValue (ofInt f (pos n)) false n 1
+unfolding ofInt
+whole-value f n h = round-whole f false n h
+
+-- ---- the quotient of a / c and b / d
+cross : (x y de dd a c b d : ℕ) → x * c ≡ a * de → y * d ≡ b * dd → x * dd * (b * c) ≡ a * d * (y * de)
+cross x y de dd a c b d h k =
+    let l : x * dd * (b * c) ≡ x * c * (b * dd) = simp (mul-assoc, mul-comm, mul-left-comm) in
+    let r : a * d * (y * de) ≡ a * de * (y * d) = simp (mul-assoc, mul-comm, mul-left-comm) in
+    l ∙ ap (λ (z : ℕ). z * (b * dd)) h ∙ ap (λ (z : ℕ). a * de * z) (sym k) ∙ sym r
+
+-- a value above zero has digits
+not-zero : (n : ℕ) (g : ℤ) (b d : ℕ) → 0 < b → n * up g * d ≡ b * down g → T (eqb n 0) → ⊥
+not-zero n g b d B k t =
+    let z : n ≡ 0 = eqb→eq n 0 t in
+    let q : n * up g * d ≡ 0 = ap (λ (x : ℕ). x * up g * d) z ∙ ap (λ (x : ℕ). x * d) (zero-mul (up g)) ∙ zero-mul d in
+    let p : 0 < b * down g = mul-pos B (down-pos g) in
+    omega arith
+
+past : {X : Type 0} (t : Bool) (x y : X) → (T t → ⊥) → cond t x y ≡ y
+past true x y h = absurd (h tt)
+past false x y h = refl
+
+pub div-at : (f : Format) (x y : Float) (a c b d : ℕ) → 0 < c → 0 < b → 0 < d → HasValue x false a c → HasValue y false b d → div f x y ≡ round f false (a * d) (b * c)
+unfolding div
+div-at f nan y a c b d C B D h k = absurd h
+div-at f (inf s) y a c b d C B D h k = absurd h
+div-at f (fin s m e) nan a c b d C B D h k = absurd k
+div-at f (fin s m e) (inf t) a c b d C B D h k = absurd k
+div-at f (fin true m e) (fin t n g) a c b d C B D h k = absurd (true≢false (h .0))
+div-at f (fin false m e) (fin true n g) a c b d C B D h k = absurd (true≢false (k .0))
+div-at f (fin false m e) (fin false n g) a c b d C B D h k =
+    past (eqb n 0) (cond (eqb m 0) nan (inf false)) (round f false (m * up e * down g) (n * up g * down e)) (not-zero n g b d B (k .1))
+    ∙ round-same f false (m * up e * down g) (n * up g * down e) (a * d) (b * c) (mul-pos (digits n g b d B (k .1)) (down-pos e)) (mul-pos B C) (cross (m * up e) (n * up g) (down e) (down g) a c b d (h .1) (k .1))
+  where
+    digits : (n : ℕ) (g : ℤ) (b d : ℕ) → 0 < b → n * up g * d ≡ b * down g → 0 < n * up g
+    digits n g b d B k =
+        let p : 0 < b * down g = mul-pos B (down-pos g) in
+        first-pos (n * up g) d (subst (λ (x : ℕ). 0 < x) (sym k) p)
+
+-- ---- the sum of a / c and b / d
+cross-sum : (x y de dd a c b d : ℕ) → x * c ≡ a * de → y * d ≡ b * dd → (x * dd + y * de) * (c * d) ≡ (a * d + b * c) * (de * dd)
+cross-sum x y de dd a c b d h k =
+    let l : x * dd * (c * d) ≡ x * c * (d * dd) = simp (mul-assoc, mul-comm, mul-left-comm) in
+    let l' : y * de * (c * d) ≡ y * d * (c * de) = simp (mul-assoc, mul-comm, mul-left-comm) in
+    let r : a * d * (de * dd) ≡ a * de * (d * dd) = simp (mul-assoc, mul-comm, mul-left-comm) in
+    let r' : b * c * (de * dd) ≡ b * dd * (c * de) = simp (mul-assoc, mul-comm, mul-left-comm) in
+    let p : x * c * (d * dd) ≡ a * de * (d * dd) = ap (λ (z : ℕ). z * (d * dd)) h in
+    let q : y * d * (c * de) ≡ b * dd * (c * de) = ap (λ (z : ℕ). z * (c * de)) k in
+    let u : (x * dd + y * de) * (c * d) ≡ x * dd * (c * d) + y * de * (c * d) = add-mul (x * dd) (y * de) (c * d) in
+    let v : (a * d + b * c) * (de * dd) ≡ a * d * (de * dd) + b * c * (de * dd) = add-mul (a * d) (b * c) (de * dd) in
+    omega arith
+
+pub add-at : (f : Format) (x y : Float) (a c b d : ℕ) → 0 < c → 0 < d → HasValue x false a c → HasValue y false b d → add f x y ≡ round f false (a * d + b * c) (c * d)
+unfolding add sum
+add-at f nan y a c b d C D h k = absurd h
+add-at f (inf s) y a c b d C D h k = absurd h
+add-at f (fin s m e) nan a c b d C D h k = absurd k
+add-at f (fin s m e) (inf t) a c b d C D h k = absurd k
+add-at f (fin true m e) (fin t n g) a c b d C D h k = absurd (true≢false (h .0))
+add-at f (fin false m e) (fin true n g) a c b d C D h k = absurd (true≢false (k .0))
+add-at f (fin false m e) (fin false n g) a c b d C D h k =
+    round-same f false (m * up e * down g + n * up g * down e) (down e * down g) (a * d + b * c) (c * d) (mul-pos (down-pos e) (down-pos g)) (mul-pos C D) (cross-sum (m * up e) (n * up g) (down e) (down g) a c b d (h .1) (k .1))
+
+-- ---- the quotient of two whole numbers that the format counts without a gap: one rounding of the exact quotient
+pub div-whole : (f : Format) (a b : ℕ) → a ≤ 2 ^ prec f → 0 < b → b ≤ 2 ^ prec f → div f (ofInt f (pos a)) (ofInt f (pos b)) ≡ round f false a b
+div-whole f a b h B k =
+    div-at f (ofInt f (pos a)) (ofInt f (pos b)) a 1 b 1 (lit< tt) B (lit< tt) (whole-value f a h) (whole-value f b k)
+    ∙ ap (λ (z : ℕ). round f false z (b * 1)) (mul-one a)
+    ∙ ap (λ (z : ℕ). round f false a z) (mul-one b)
+
+-- a whole number and a power of ten that the format holds: one division is one rounding
+pub divided : (f : Format) (n k : ℕ) {p : ℕ} → n ≤ 2 ^ prec f → k ≤ 9 → 10 ^ k ≤ 2 ^ prec f → p ≡ 10 ^ min k 9
+    → div f (ofInt f (pos n)) (ofInt f (pos p)) ≡ round f false n (10 ^ k)
+divided f n k h j i e =
+    ap (λ (x : ℕ). div f (ofInt f (pos n)) (ofInt f (pos x))) (capped k j e) ∙ div-whole f n (10 ^ k) h (ten-pos k) i
+
+-- ---- the sign goes through a rounding
+neg-odd : (d q k l : ℕ) → neg (odd d false q k l) ≡ odd d true q k l
+unfolding neg odd
+neg-odd d zero k l = refl
+neg-odd d (suc q) k l = refl
+
+neg-units : (f : Format) (q k : ℕ) → neg (units f false q k) ≡ units f true q k
+unfolding units neg
+neg-units f q k = go (ltb (q * 2 ^ k) (2 ^ (low f + suc (emax f))))
+  where
+    go : (b : Bool) → neg (cond b (odd (suc (prec f)) false q k (low f)) (inf false)) ≡ cond b (odd (suc (prec f)) true q k (low f)) (inf true)
+    go true = neg-odd (suc (prec f)) q k (low f)
+    go false = refl
+
+pub neg-round : (f : Format) (a b : ℕ) → neg (round f false a b) ≡ round f true a b
+neg-round f a b = ap neg (round-is f false a b) ∙ neg-units f _ _ ∙ sym (round-is f true a b)
+
+-- ---- zeros after the decimals change nothing: the same number of minutes is the same float
+pub same-decimal : (f : Format) (s : Bool) (w k n : ℕ) → k ≤ n → round f s w (10 ^ k) ≡ round f s (w * 10 ^ (n - k)) (10 ^ n)
+same-decimal f s w k n h =
+    round-same f s w (10 ^ k) (w * 10 ^ (n - k)) (10 ^ n) (ten-pos k) (ten-pos n)
+    (ap (λ (x : ℕ). w * x) (sym (parts k n h)) ∙ simp (mul-assoc, mul-comm, mul-left-comm))
+
+-- ---- a rounded fraction is no NaN
+units-no-nan : (f : Format) (s : Bool) (q k : ℕ) → T (not (isNan (units f s q k)))
+unfolding units isNan odd
+units-no-nan f s q k = go (ltb (q * 2 ^ k) (2 ^ (low f + suc (emax f)))) q
+  where
+    go : (b : Bool) (p : ℕ) → T (not (isNan (cond b (odd (suc (prec f)) s p k (low f)) (inf s))))
+    go true zero = tt
+    go true (suc p) = tt
+    go false p = tt
+
+pub round-no-nan : (f : Format) (s : Bool) (a b : ℕ) → T (not (isNan (round f s a b)))
+round-no-nan f s a b = subst (λ (x : Float). T (not (isNan x))) (sym (round-is f s a b)) (units-no-nan f s _ _)

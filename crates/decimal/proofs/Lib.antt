@@ -1,0 +1,5 @@
+pub mod Power
+pub mod Exact
+pub mod Runs
+pub mod Decimals
+pub mod Bounds

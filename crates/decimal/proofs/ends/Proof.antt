@@ -1,0 +1,17 @@
+use mathlib.Core.Path.{refl}
+use Rattle.text.proofs.Places.{here, ended}
+use borrow.Author.Needs.{needs}
+use Rattle.decimal.proofs.ends.Statement.{statement}
+use Rattle.decimal.proofs.ends.Tie as tie
+
+returns : tie.Need-returns
+returns c = (rw (ended _ _ (c .if1 .taken)), refl)
+
+shared-slice-read-result : tie.Need-shared-slice-read-result
+shared-slice-read-result c = search needs
+
+returns-2 : tie.Need-returns-2
+returns-2 c = (rw (here _ _ (c .before .if1 .left)), refl)
+
+pub ends-spec : {M : Type 1} → statement M
+ends-spec = tie.close (tie.spec returns shared-slice-read-result returns-2)

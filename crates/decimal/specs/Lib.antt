@@ -1,0 +1,5 @@
+pub mod Decimal
+pub mod Plain
+pub mod Places
+pub mod Run
+pub mod Answer

@@ -1,0 +1,33 @@
+-- A plain decimal within limits, as 01 says it: which texts are one, and what they write.
+use Prim.Native.Nat.{ℕ, _+_, _≤_, _<_}
+use mathlib.Core.Path.{_≡_}
+use mathlib.Core.List.{List, [], _∷_, _++_}
+use mathlib.Core.Bool.{true}
+use lib.ListN.{length}
+use Rattle.text.specs.Bytes.{byte}
+use Rattle.text.specs.Number.{isDigit, valueFrom}
+use Rattle.decimal.specs.Decimal.{Limits, Decimal, unsigned}
+
+pub data AllDigits : List ℕ → Type 0 where
+  none : AllDigits []
+  more : {b : ℕ} {l : List ℕ} → isDigit b ≡ true → AllDigits l → AllDigits (b ∷ l)
+
+-- one or more digits
+pub record Digits (ds : List ℕ) : Type 0 where
+  pub some : 0 < length ds
+  pub all : AllDigits ds
+
+-- the text `t` is a plain decimal within the limits, and writes `d`
+pub data Plain (lim : Limits) : List ℕ → Decimal → Type 0 where
+  whole : {ds : List ℕ}
+      → Digits ds
+      → length ds ≤ lim .before
+      → length ds ≤ lim .all
+      → Plain lim ds (unsigned (valueFrom 0 ds) 0)
+  pointed : {ds es : List ℕ}
+      → Digits ds
+      → Digits es
+      → length ds ≤ lim .before
+      → length es ≤ lim .after
+      → length ds + length es ≤ lim .all
+      → Plain lim (ds ++ (byte "." ∷ es)) (unsigned (valueFrom 0 (ds ++ es)) (length es))

@@ -1,0 +1,209 @@
+// Decimal places: a plain decimal within its digit limits, short or long, with the nearest float.
+// One reader over the limits serves both lengths, and one power of ten all that scale.
+ghost use mathlib.Core.Path.{_≡_};
+ghost use Prim.Native.Nat.{_+_, _*_, _^_, _≤_, _<_, min};
+ghost use mathlib.Core.Bool.{false};
+ghost use lib.ListN.{drop};
+ghost use lib.Ieee.{binary32, binary64, round};
+ghost use Rattle.text.specs.Placed.{Reads};
+ghost use Rattle.decimal.specs.Decimal.{decimal, limits};
+ghost use Rattle.decimal.specs.Run.{run, atEnd};
+ghost use Rattle.decimal.specs.Places.{shortDecimal, longDecimal};
+ghost use Rattle.decimal.specs.Answer.{ran, found, shortAt, longAt};
+use text::Next;
+
+fn wide(x: u32) -> u64
+    ensures { λ r. ⌜ r ≡ x ⌝ }
+{
+    x as u64
+}
+
+fn least(a: u32, b: u32) -> u32
+    ensures { λ r. ⌜ (r ≤ a) × (r ≤ b) × (r ≡ min a b) ⌝ }
+{
+    if a < b { a } else { b }
+}
+
+// Ten to the power `k`, up to the ninth, which stands for any above: one, or ten times the power below.
+pub fn pow10(k: u32) -> u64
+    ensures { λ r. ⌜ r ≡ 10 ^ min k 9 ⌝ }
+{
+    if k == 0 {
+        return 1;
+    }
+    if 9 < k {
+        return pow10(9);
+    }
+    10 * pow10(k - 1)
+}
+
+// A run of digits: the number it writes, its count of digits, the next place; or more digits than allowed.
+pub enum Ran {
+    Over,
+    Is(u64, u32, usize),
+}
+
+// Digits that go on from `value`, at most `most`.
+fn run(s: &[u8], at: usize, value: u64, most: u32) -> Ran
+    requires { ⌜ (value + 1) * 10 ^ most ≤ 10000000000000000000 ⌝ }
+    ensures { λ r. ⌜ Reads (now (s .entry)) at (run most value 0) (ran r) × (now (s .exit) ≡ now (s .entry)) ⌝ }
+{
+    let mut v = value;
+    let mut n: u32 = 0;
+    let mut i = at;
+    while i < s.len() {
+        let b = s[i];
+        let d = text::unit(b);
+        if 9 < d {
+            return Ran::Is(v, n, i);
+        }
+        if n == most {
+            return Ran::Over;
+        }
+        v = v * 10 + wide(d);
+        n += 1;
+        i += 1;
+    }
+    Ran::Is(v, n, i)
+}
+
+// A comma or the end.
+fn ends(s: &[u8], at: usize) -> bool
+    ensures { λ r. ⌜ (r ≡ atEnd (drop at (now (s .entry)))) × (now (s .exit) ≡ now (s .entry)) ⌝ }
+{
+    if s.len() <= at {
+        return true;
+    }
+    s[at] == b','
+}
+
+// A decimal place: absent, the digits as one number with their count of decimals, or the refusal Number.
+pub enum Found {
+    Absent(usize),
+    Is(u64, u32, usize),
+    Number,
+}
+
+// A decimal place with its limits: the most digits in all, before the point and after it.
+fn decimal(s: &[u8], at: usize, all: u32, before: u32, after: u32) -> Found
+    requires { ⌜ (before ≤ all) × (all ≤ 19) ⌝ }
+    ensures { λ r. ⌜ Reads (now (s .entry)) at (decimal (limits all before after)) (found r) × (now (s .exit) ≡ now (s .entry)) ⌝ }
+{
+    if ends(s, at) {
+        return Found::Absent(at);
+    }
+    let Ran::Is(v, m, i) = run(s, at, 0, before) else {
+        return Found::Number;
+    };
+    if m == 0 {
+        return Found::Number;
+    }
+    if ends(s, i) {
+        return Found::Is(v, 0, i);
+    }
+    let Next::At(j) = text::byte(s, i, b'.') else {
+        return Found::Number;
+    };
+    let most = least(after, all - m);
+    let Ran::Is(w, k, e) = run(s, j, v, most) else {
+        return Found::Number;
+    };
+    if k == 0 {
+        return Found::Number;
+    }
+    if ends(s, e) {
+        return Found::Is(w, k, e);
+    }
+    Found::Number
+}
+
+// A short decimal: its digits as a whole number, its count of decimals, and the nearest f32.
+pub struct ShortDecimal {
+    pub whole: i32,
+    pub decimals: u32,
+    pub value: f32,
+}
+
+// A short decimal and the next place, none, or the refusal Number.
+pub enum ShortAt {
+    Absent(usize),
+    Is(ShortDecimal, usize),
+    Number,
+}
+
+// The f32 nearest to size / 10 ^ k, by one division of exact operands.
+fn nearest_f32(size: u32, k: u32) -> f32
+    requires { ⌜ (size < 10000000) × (k ≤ 6) ⌝ }
+    ensures { λ r. ⌜ r ≡ round binary32 false size (10 ^ k) ⌝ }
+{
+    (size as f32) / (pow10(k) as f32)
+}
+
+// A short decimal place: speed, course, variation, DOP.
+pub fn short_decimal(s: &[u8], at: usize) -> ShortAt
+    ensures { λ r. ⌜ Reads (now (s .entry)) at shortDecimal (shortAt r) × (now (s .exit) ≡ now (s .entry)) ⌝ }
+{
+    match decimal(s, at, 7, 7, 7) {
+        Found::Absent(p) => ShortAt::Absent(p),
+        Found::Is(n, k, p) => {
+            let size = n as u32;
+            let value = nearest_f32(size, k);
+            let whole = size as i32;
+            ShortAt::Is(
+                ShortDecimal {
+                    whole: whole,
+                    decimals: k,
+                    value: value,
+                },
+                p,
+            )
+        }
+        Found::Number => ShortAt::Number,
+    }
+}
+
+// A long decimal: its digits, its count of decimals, the same in billionths, and the nearest f64.
+pub struct LongDecimal {
+    pub size: u64,
+    pub decimals: u32,
+    pub billionths: u64,
+    pub value: f64,
+}
+
+// A long decimal and the next place, none, or the refusal Number.
+pub enum LongAt {
+    Absent(usize),
+    Is(LongDecimal, usize),
+    Number,
+}
+
+// The f64 nearest to size / 10 ^ k, by one division of exact operands.
+fn nearest_f64(size: u64, k: u32) -> f64
+    requires { ⌜ (size < 1000000000000) × (k ≤ 9) ⌝ }
+    ensures { λ r. ⌜ r ≡ round binary64 false size (10 ^ k) ⌝ }
+{
+    (size as f64) / (pow10(k) as f64)
+}
+
+// A long decimal place: minutes of arc, seconds.
+pub fn long_decimal(s: &[u8], at: usize) -> LongAt
+    ensures { λ r. ⌜ Reads (now (s .entry)) at longDecimal (longAt r) × (now (s .exit) ≡ now (s .entry)) ⌝ }
+{
+    match decimal(s, at, 12, 3, 9) {
+        Found::Absent(p) => LongAt::Absent(p),
+        Found::Is(n, k, p) => {
+            let billionths = n * pow10(9 - k);
+            let value = nearest_f64(n, k);
+            LongAt::Is(
+                LongDecimal {
+                    size: n,
+                    decimals: k,
+                    billionths: billionths,
+                    value: value,
+                },
+                p,
+            )
+        }
+        Found::Number => LongAt::Number,
+    }
+}

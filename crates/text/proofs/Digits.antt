@@ -1,0 +1,62 @@
+-- What a number's reading does at a digit and where digits end.
+use Prim.Native.Nat.{ℕ, suc, _+_, _-_, _*_, _≤_, _<_}
+use native.Mathlib.Omega.{arith}
+use mathlib.Core.Path.{_≡_, refl, ap}
+use mathlib.Core.Bool.{Bool, true, false, cond}
+use mathlib.Core.List.{List, [], _∷_}
+use lib.ListN.{length, drop, getD}
+use lib.Dec.{leb, ltb}
+use borrow.Author.Tests.{le-leb, lt-leb, lt-ltb}
+use Rattle.text.specs.Reader.{Parse, miss, got}
+use Rattle.text.proofs.Places.{here, ended}
+use Rattle.text.specs.Number.{isDigit, digits, afterDigits, valueFrom, numberFrom, number}
+
+pub digit-yes : (b : ℕ) → 48 ≤ b → b ≤ 57 → isDigit b ≡ true
+digit-yes b h k = simp (le-leb _ _ h, le-leb _ _ k)
+
+pub digit-below : (b : ℕ) → b < 48 → isDigit b ≡ false
+digit-below b h = simp (lt-leb _ _ h)
+
+pub digit-above : (b : ℕ) → 57 < b → isDigit b ≡ false
+digit-above b h = let k : 48 ≤ b = omega arith in simp (le-leb _ _ k, lt-leb _ _ h)
+
+-- more digits write no smaller number
+pub grows : (n : ℕ) (ds : List ℕ) → n ≤ valueFrom n ds
+grows n [] = omega arith
+grows n (b ∷ ds) = omega (arith, grows (n * 10 + (b - 48)) ds)
+
+-- a number's reading goes on from `n` at the place `i` of the text `s`
+module _ (max n : ℕ) (s : List ℕ) (i : ℕ) where
+  pub number-more : i < length s → isDigit (getD s i 0) ≡ true
+      → numberFrom max n (drop i s) ≡ numberFrom max (n * 10 + (getD s i 0 - 48)) (drop (i + 1) s)
+  unfolding numberFrom
+  number-more h e = rw (here s i h, e)
+
+  pub number-stop : i < length s → isDigit (getD s i 0) ≡ false → n ≤ max → numberFrom max n (drop i s) ≡ got n (drop i s)
+  unfolding numberFrom
+  number-stop h e m = rw (here s i h, e, le-leb n max m)
+
+  pub number-end : length s ≤ i → n ≤ max → numberFrom max n (drop i s) ≡ got n (drop i s)
+  unfolding numberFrom
+  number-end h m = rw (ended s i h, le-leb n max m)
+
+pub number-over : (max n : ℕ) (l : List ℕ) → max < n → numberFrom max n l ≡ miss
+unfolding numberFrom
+number-over max n l h =
+    let k : max < valueFrom n (digits l) = omega (arith, grows n (digits l)) in
+    rw (lt-leb _ _ k)
+
+module _ (max : ℕ) (s : List ℕ) (i : ℕ) where
+  pub number-first : i < length s → isDigit (getD s i 0) ≡ true → number max (drop i s) ≡ numberFrom max 0 (drop i s)
+  unfolding number
+  number-first h e =
+      let k : (l : List ℕ) → 0 < length (getD s i 0 ∷ l) = λ l. omega arith in
+      rw (here s i h, e, lt-ltb _ _ (k (digits (drop (i + 1) s))))
+
+  pub number-none : i < length s → isDigit (getD s i 0) ≡ false → number max (drop i s) ≡ miss
+  unfolding number
+  number-none h e = rw (here s i h, e)
+
+  pub number-past : length s ≤ i → number max (drop i s) ≡ miss
+  unfolding number
+  number-past h = rw (ended s i h)

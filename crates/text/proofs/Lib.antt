@@ -1,0 +1,6 @@
+pub mod Places
+pub mod Steps
+pub mod Letters
+pub mod Digits
+pub mod Parts
+pub mod Fixed

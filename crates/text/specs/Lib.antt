@@ -1,0 +1,6 @@
+pub mod Reader
+pub mod Placed
+pub mod Bytes
+pub mod Number
+pub mod Answer
+pub mod Units

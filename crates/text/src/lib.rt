@@ -1,0 +1,218 @@
+// Reading from the front of a text: a byte, a letter, whole numbers, the text up to a byte.
+// Each reader takes the whole text and a place in it, and answers the next place; past the end nothing stands.
+ghost use mathlib.Core.Path.{_≡_};
+ghost use Rattle.text.specs.Reader.{char, oneOf, opt, until};
+ghost use Rattle.text.specs.Placed.{Reads};
+ghost use Rattle.text.specs.Number.{number, two, three};
+ghost use Rattle.text.specs.Units.{unit, leadUnit};
+ghost use Rattle.text.specs.Answer.{whole, next, part, lettered, field};
+
+// The next place, or no match.
+pub enum Next {
+    No,
+    At(usize),
+}
+
+// A whole number and the next place, or no match.
+pub enum Whole {
+    No,
+    Is(u32, usize),
+}
+
+// A letter and the next place, or no match.
+pub enum Letter {
+    No,
+    Is(u8, usize),
+}
+
+// A number that may be absent.
+pub enum Held {
+    Absent,
+    Known(u32),
+}
+
+// A number that may be absent, and the next place.
+pub struct Field {
+    pub value: Held,
+    pub at: usize,
+}
+
+fn wide(x: u8) -> u64
+    ensures { λ r. ⌜ r ≡ x ⌝ }
+{
+    x as u64
+}
+
+fn wide32(x: u32) -> u64
+    ensures { λ r. ⌜ r ≡ x ⌝ }
+{
+    x as u64
+}
+
+// The byte `b`.
+pub fn byte(s: &[u8], at: usize, b: u8) -> Next
+    ensures { λ r. ⌜ Reads (now (s .entry)) at (char b) (next r) × (now (s .exit) ≡ now (s .entry)) ⌝ }
+{
+    if s.len() <= at {
+        return Next::No;
+    }
+    if s[at] == b {
+        Next::At(at + 1)
+    } else {
+        Next::No
+    }
+}
+
+// One of two letters.
+pub fn one_of(s: &[u8], at: usize, a: u8, b: u8) -> Letter
+    ensures { λ r. ⌜ Reads (now (s .entry)) at (oneOf a b) (lettered r) × (now (s .exit) ≡ now (s .entry)) ⌝ }
+{
+    if s.len() <= at {
+        return Letter::No;
+    }
+    let c = s[at];
+    if c == a {
+        return Letter::Is(c, at + 1);
+    }
+    if c == b {
+        return Letter::Is(c, at + 1);
+    }
+    Letter::No
+}
+
+// The text up to the first byte `b`: the place of that byte.
+pub fn until(s: &[u8], at: usize, b: u8) -> Next
+    ensures { λ r. ⌜ Reads (now (s .entry)) at (until b) (part (now (s .entry)) at r) × (now (s .exit) ≡ now (s .entry)) ⌝ }
+{
+    let mut i = at;
+    while i < s.len() {
+        if s[i] == b {
+            return Next::At(i);
+        }
+        i += 1;
+    }
+    Next::No
+}
+
+// One or more digits that write a number up to `max`.
+pub fn number(s: &[u8], at: usize, max: u32) -> Whole
+    ensures { λ r. ⌜ Reads (now (s .entry)) at (number max) (whole r) × (now (s .exit) ≡ now (s .entry)) ⌝ }
+{
+    if s.len() <= at {
+        return Whole::No;
+    }
+    let first = s[at];
+    if first < b'0' {
+        return Whole::No;
+    }
+    if b'9' < first {
+        return Whole::No;
+    }
+    let top = wide32(max);
+    let mut value: u64 = 0;
+    let mut i = at;
+    while i < s.len() {
+        let b = s[i];
+        if b < b'0' {
+            return Whole::Is(value as u32, i);
+        }
+        if b'9' < b {
+            return Whole::Is(value as u32, i);
+        }
+        value = value * 10 + wide(b - b'0');
+        if top < value {
+            return Whole::No;
+        }
+        i += 1;
+    }
+    Whole::Is(value as u32, i)
+}
+
+// A number up to `max`, if one stands there.
+pub fn opt_number(s: &[u8], at: usize, max: u32) -> Field
+    ensures { λ r. ⌜ Reads (now (s .entry)) at (opt (number max)) (field r) × (now (s .exit) ≡ now (s .entry)) ⌝ }
+{
+    match number(s, at, max) {
+        Whole::Is(v, next) => Field {
+            value: Held::Known(v),
+            at: next,
+        },
+        Whole::No => Field {
+            value: Held::Absent,
+            at: at,
+        },
+    }
+}
+
+// What a byte counts as a digit; ten where it is none.
+pub fn unit(b: u8) -> u32
+    ensures { λ r. ⌜ r ≡ unit b ⌝ }
+{
+    if b < b'0' {
+        return 10;
+    }
+    if b'9' < b {
+        return 10;
+    }
+    (b - b'0') as u32
+}
+
+// The same of a first byte, where `+` counts nothing.
+fn lead_unit(b: u8) -> u32
+    ensures { λ r. ⌜ r ≡ leadUnit b ⌝ }
+{
+    if b == b'+' {
+        return 0;
+    }
+    unit(b)
+}
+
+// Two bytes: digits, or `+` and a digit.
+pub fn two(s: &[u8], at: usize) -> Whole
+    ensures { λ r. ⌜ Reads (now (s .entry)) at two (whole r) × (now (s .exit) ≡ now (s .entry)) ⌝ }
+{
+    if s.len() < 2 {
+        return Whole::No;
+    }
+    if s.len() - 2 < at {
+        return Whole::No;
+    }
+    let a = lead_unit(s[at]);
+    if 9 < a {
+        return Whole::No;
+    }
+    let b = unit(s[at + 1]);
+    if 9 < b {
+        return Whole::No;
+    }
+    Whole::Is(a * 10 + b, at + 2)
+}
+
+// Three bytes: digits, or `+` and digits, up to 255.
+pub fn three(s: &[u8], at: usize) -> Whole
+    ensures { λ r. ⌜ Reads (now (s .entry)) at three (whole r) × (now (s .exit) ≡ now (s .entry)) ⌝ }
+{
+    if s.len() < 3 {
+        return Whole::No;
+    }
+    if s.len() - 3 < at {
+        return Whole::No;
+    }
+    let a = lead_unit(s[at]);
+    if 9 < a {
+        return Whole::No;
+    }
+    let b = unit(s[at + 1]);
+    if 9 < b {
+        return Whole::No;
+    }
+    let c = unit(s[at + 2]);
+    if 9 < c {
+        return Whole::No;
+    }
+    let v = (a * 10 + b) * 10 + c;
+    if 255 < v {
+        return Whole::No;
+    }
+    Whole::Is(v, at + 3)
+}

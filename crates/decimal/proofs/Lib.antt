@@ -3,3 +3,5 @@ pub mod Exact
 pub mod Runs
 pub mod Decimals
 pub mod Bounds
+pub mod Steps
+pub mod Facts

@@ -1,0 +1,4 @@
+pub mod Clock
+pub mod Calendar
+pub mod Sign
+pub mod Steps

@@ -1,0 +1,63 @@
+-- The laws of reading at each answer of the fields, for `search`. Assumes nothing.
+use Prim.Native.Nat.{ℕ}
+use mathlib.Core.Path.{_≡_, ap, sym, _∙_}
+use mathlib.Core.List.{List}
+use mathlib.Core.Option.{Option, none, some}
+use Rattle.text.specs.Reader.{Reader, _>>=_, orMiss, Number, BadTime}
+use Rattle.text.specs.Placed.{Placed, unread, refused, upto, Reads}
+use Rattle.text.proofs.Places.{stop, fail, go, done, miss-none, miss-some}
+use Rattle.text.proofs.Steps.{stop-whole, go-whole, stop-next, go-next, stop-letter, go-letter, stop-miss, go-some}
+use Rattle.decimal.specs.Places.{Short}
+use Rattle.decimal.specs.Answer.{aShort}
+use Rattle.decimal.specs.declared.ShortDecimal.{ShortDecimal}
+use Rattle.decimal.proofs.Steps.{fail-short, go-no-short, go-short, fail-long, go-no-long, go-long}
+use Rattle.fields.specs.Date.{Date}
+use Rattle.fields.specs.Position.{Position, LatLon}
+use Rattle.fields.specs.Answer.{calendared, dayOf, coordinate, sideAt, both, bothAt, magneticAt}
+use Rattle.fields.specs.declared.date.Day.{Day}
+use Rattle.fields.specs.declared.date.Calendar.{Calendar}
+use Rattle.fields.specs.declared.date.Calendar.the-variants.{No as NoDay, Is as ADay}
+use Rattle.fields.specs.declared.position.Coordinate.{Coordinate}
+use Rattle.fields.specs.declared.position.SideAt.{SideAt}
+use Rattle.fields.specs.declared.position.SideAt.the-variants.{No as NoSide, Is as ASide, Number as SideNumber}
+use Rattle.fields.specs.declared.position.Both.{Both}
+use Rattle.fields.specs.declared.position.BothAt.{BothAt}
+use Rattle.fields.specs.declared.position.BothAt.the-variants.{No as NoBoth, Is as ABoth, Number as BothNumber}
+use Rattle.fields.specs.declared.variation.MagneticAt.{MagneticAt}
+use Rattle.fields.specs.declared.variation.MagneticAt.the-variants.{No as NoMagnetic, Is as AMagnetic, Number as MagneticNumber}
+
+pub no-day : {s : List ℕ} {p : ℕ} {o : Option Date} {r : Calendar} → r ≡ NoDay → calendared r ≡ o → Reads s p (orMiss o) unread
+no-day e f = miss-none (sym f ∙ ap calendared e)
+
+pub a-day : {s : List ℕ} {p : ℕ} {o : Option Date} {r : Calendar} {d : Day} → r ≡ ADay d → calendared r ≡ o → Reads s p (orMiss o) (upto (dayOf d) p)
+a-day e f = miss-some (sym f ∙ ap calendared e)
+
+module _ {B : Type 0} {s : List ℕ} {at : ℕ} where
+  pub stop-side : {q : Reader Position} (k : Position → Reader B) {r : SideAt} → r ≡ NoSide → Reads s at q (sideAt r) → Reads s at (q >>= k) unread
+  stop-side k e t = stop k t (ap sideAt e)
+
+  pub fail-side : {q : Reader Position} (k : Position → Reader B) {r : SideAt} → r ≡ SideNumber → Reads s at q (sideAt r) → Reads s at (q >>= k) (refused Number)
+  fail-side k e t = fail k t (ap sideAt e)
+
+  pub go-side : {q : Reader Position} (k : Position → Reader B) {r : SideAt} {d : Coordinate} {p : ℕ} {b : Placed B} → r ≡ ASide d p → Reads s at q (sideAt r) → Reads s p (k (coordinate d)) b → Reads s at (q >>= k) b
+  go-side k e t u = go k t (ap sideAt e) u
+
+  pub stop-both : {q : Reader LatLon} (k : LatLon → Reader B) {r : BothAt} → r ≡ NoBoth → Reads s at q (bothAt r) → Reads s at (q >>= k) unread
+  stop-both k e t = stop k t (ap bothAt e)
+
+  pub fail-both : {q : Reader LatLon} (k : LatLon → Reader B) {r : BothAt} → r ≡ BothNumber → Reads s at q (bothAt r) → Reads s at (q >>= k) (refused Number)
+  fail-both k e t = fail k t (ap bothAt e)
+
+  pub go-both : {q : Reader LatLon} (k : LatLon → Reader B) {r : BothAt} {d : Both} {p : ℕ} {b : Placed B} → r ≡ ABoth d p → Reads s at q (bothAt r) → Reads s p (k (both d)) b → Reads s at (q >>= k) b
+  go-both k e t u = go k t (ap bothAt e) u
+
+  pub stop-magnetic : {q : Reader Short} (k : Short → Reader B) {r : MagneticAt} → r ≡ NoMagnetic → Reads s at q (magneticAt r) → Reads s at (q >>= k) unread
+  stop-magnetic k e t = stop k t (ap magneticAt e)
+
+  pub fail-magnetic : {q : Reader Short} (k : Short → Reader B) {r : MagneticAt} → r ≡ MagneticNumber → Reads s at q (magneticAt r) → Reads s at (q >>= k) (refused Number)
+  fail-magnetic k e t = fail k t (ap magneticAt e)
+
+  pub go-magnetic : {q : Reader Short} (k : Short → Reader B) {r : MagneticAt} {d : ShortDecimal} {p : ℕ} {b : Placed B} → r ≡ AMagnetic d p → Reads s at q (magneticAt r) → Reads s p (k (aShort d)) b → Reads s at (q >>= k) b
+  go-magnetic k e t u = go k t (ap magneticAt e) u
+
+pub ruleset steps = (stop-whole, go-whole, stop-next, go-next, stop-letter, go-letter, stop-miss, go-some, fail-long, go-no-long, go-long, fail-short, go-no-short, go-short, no-day, a-day, stop-side, fail-side, go-side, stop-both, fail-both, go-both, stop-magnetic, fail-magnetic, go-magnetic, done)

@@ -1,0 +1,28 @@
+-- `located` meets its contract: the parts are those of the definition. Assumes nothing.
+use mathlib.Core.Path.{_≡_}
+use mir.Syntax.{w64}
+use mir.Val.{toZ, ofZ}
+use borrow.Author.Needs.{needs}
+use Rattle.fields.proofs.position.located.Statement.{statement}
+use Rattle.fields.proofs.position.located.Tie as tie
+
+mul-signed-of : tie.Need-mul-signed-of
+mul-signed-of c = search needs
+
+add-signed-of : tie.Need-add-signed-of
+add-signed-of c = search needs
+
+signed-of-requires : tie.Need-signed-of-requires
+signed-of-requires c κs = search needs
+
+degrees-of-requires : tie.Need-degrees-of-requires
+degrees-of-requires c κs = search needs
+
+returns : tie.Need-returns
+returns c = 
+    let e : toZ w64 (ofZ w64 (c .before .signed-of .result)) ≡ c .before .signed-of .result = search needs in
+    rw (e, c .before .signed-of .ensures, c .degrees-of .ensures)
+
+pub located-spec : {M : Type 1} → statement M
+located-spec =
+    tie.close (tie.spec mul-signed-of add-signed-of signed-of-requires degrees-of-requires returns)

@@ -1,0 +1,48 @@
+-- `opt_hms` meets its contract: what `parse_hms` answers, or nothing eaten. Assumes nothing.
+use mathlib.Core.Path.{refl, ap}
+use Rattle.text.proofs.Places.{opt-some, opt-none, opt-bad}
+use Rattle.fields.specs.Answer.{timeRead}
+use borrow.Author.Needs.{needs}
+use Rattle.fields.proofs.time.opt_hms.Statement.{statement}
+use Rattle.fields.proofs.time.opt_hms.Tie as tie
+
+parse-hms-requires : tie.Need-parse-hms-requires
+parse-hms-requires c κs = search needs
+
+enum-told : tie.Need-enum-told
+enum-told c = search needs
+
+enum-known-t : tie.Need-enum-known-t
+enum-known-t c = search needs
+
+enum-told-2 : tie.Need-enum-told-2
+enum-told-2 c = search needs
+
+enum-told-3 : tie.Need-enum-told-3
+enum-told-3 c = search needs
+
+returns : tie.Need-returns
+returns c = (opt-none _ (c .before .before .parse-hms .ensures .0) (ap timeRead (c .enum-told .given .1)), refl)
+
+returns-2 : tie.Need-returns-2
+returns-2 c = (opt-some _ (c .before .before .before .parse-hms .ensures .0) (ap timeRead (c .before .t .given .1)), refl)
+
+returns-3 : tie.Need-returns-3
+returns-3 c = (opt-bad _ (c .before .before .parse-hms .ensures .0) (ap timeRead (c .enum-told2 .given .1)), refl)
+
+returns-4 : tie.Need-returns-4
+returns-4 c = (opt-bad _ (c .before .before .parse-hms .ensures .0) (ap timeRead (c .enum-told3 .given .1)), refl)
+
+pub opt-hms-spec : {M : Type 1} → statement M
+opt-hms-spec =
+    tie.close
+    (tie.spec
+    parse-hms-requires
+    enum-told
+    enum-known-t
+    enum-told-2
+    enum-told-3
+    returns
+    returns-2
+    returns-3
+    returns-4)

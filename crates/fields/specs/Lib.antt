@@ -1,0 +1,5 @@
+pub mod Time
+pub mod Date
+pub mod Position
+pub mod Variation
+pub mod Answer

@@ -1,0 +1,91 @@
+// The time of day.
+ghost use mathlib.Core.Path.{_≡_};
+ghost use Prim.Native.Nat.{_≤_};
+ghost use Rattle.text.specs.Placed.{Reads};
+ghost use Rattle.fields.specs.Time.{clock, hms, optHms};
+ghost use Rattle.fields.specs.Answer.{timeRead, timeAt};
+use decimal::LongAt;
+use text::Whole;
+
+pub struct TimeOfDay {
+    pub hour: u32,
+    pub minute: u32,
+    pub second: u32,
+    pub nanosecond: u32,
+}
+
+// A time and the next place, no match, or a refusal.
+pub enum TimeRead {
+    No,
+    Is(TimeOfDay, usize),
+    Number,
+    BadTime,
+}
+
+// What hour, minute and seconds make: the ranges first, then BadTime.
+fn on_clock(s: &[u8], at: usize, hour: u32, minute: u32, size: u64, k: u32) -> TimeRead
+    requires { ⌜ k ≤ 9 ⌝ }
+    ensures { λ r. ⌜ Reads (now (s .entry)) at (clock hour minute size k) (timeRead r) × (now (s .exit) ≡ now (s .entry)) ⌝ }
+{
+    if 24 <= hour {
+        return TimeRead::No;
+    }
+    if 60 <= minute {
+        return TimeRead::No;
+    }
+    let one = decimal::pow10(k);
+    let second = size / one;
+    if 60 <= second {
+        return TimeRead::No;
+    }
+    let nanosecond = size % one * decimal::pow10(9 - k);
+    if 1000000000 <= nanosecond {
+        return TimeRead::BadTime;
+    }
+    TimeRead::Is(
+        TimeOfDay {
+            hour: hour,
+            minute: minute,
+            second: second as u32,
+            nanosecond: nanosecond as u32,
+        },
+        at,
+    )
+}
+
+// Hour, minute and seconds.
+pub fn parse_hms(s: &[u8], at: usize) -> TimeRead
+    ensures { λ r. ⌜ Reads (now (s .entry)) at hms (timeRead r) × (now (s .exit) ≡ now (s .entry)) ⌝ }
+{
+    let Whole::Is(hour, at) = text::two(s, at) else {
+        return TimeRead::No;
+    };
+    let Whole::Is(minute, at) = text::two(s, at) else {
+        return TimeRead::No;
+    };
+    match decimal::long_decimal(s, at) {
+        LongAt::Absent(_) => TimeRead::No,
+        LongAt::Is(d, at) => on_clock(s, at, hour, minute, d.size, d.decimals),
+        LongAt::Number => TimeRead::Number,
+    }
+}
+
+// A time that may be absent, and the next place, or a refusal.
+pub enum TimeAt {
+    Absent(usize),
+    Is(TimeOfDay, usize),
+    Number,
+    BadTime,
+}
+
+// A time, if one stands there.
+pub fn opt_hms(s: &[u8], at: usize) -> TimeAt
+    ensures { λ r. ⌜ Reads (now (s .entry)) at optHms (timeAt r) × (now (s .exit) ≡ now (s .entry)) ⌝ }
+{
+    match parse_hms(s, at) {
+        TimeRead::No => TimeAt::Absent(at),
+        TimeRead::Is(t, next) => TimeAt::Is(t, next),
+        TimeRead::Number => TimeAt::Number,
+        TimeRead::BadTime => TimeAt::BadTime,
+    }
+}

@@ -1,0 +1,75 @@
+//! Answers in the words of docs/DIFFERENCES.md.
+
+use oracle::{Answer, Gsa, Refusal, Rmc};
+
+/// An answer as the document writes it.
+pub fn describe(answer: &Answer) -> String {
+    match answer {
+        Answer::Rmc(record) => format!("accepts: {}", describe_rmc(record)),
+        Answer::Gsa(record) => format!("accepts: {}", describe_gsa(record)),
+        Answer::Gsv(record) => format!("accepts: {record:?}"),
+        Answer::Other(name) => format!("accepts: Other {}", name.escape_ascii()),
+        Answer::Refused(refusal) => format!("refuses: {}", describe_refusal(refusal)),
+    }
+}
+
+fn describe_rmc(record: &Rmc) -> String {
+    let f32_field =
+        |name, bits: Option<u32>| bits.map(|bits| format!("{name} {:?}", f32::from_bits(bits)));
+    let f64_field =
+        |name, bits: Option<u64>| bits.map(|bits| format!("{name} {:?}", f64::from_bits(bits)));
+    let time = record.time.map(|time| {
+        format!(
+            "time {:02}:{:02}:{:02} and {} ns",
+            time.hour, time.minute, time.second, time.nanosecond
+        )
+    });
+    let fields = [
+        time,
+        f64_field("latitude", record.latitude),
+        f64_field("longitude", record.longitude),
+        f32_field("speed", record.speed),
+        f32_field("course", record.course),
+        record.date.map(|date| format!("{date:?}")),
+        f32_field("variation", record.variation),
+        record.mode.map(|letter| format!("mode {letter}")),
+        record.navigation.map(|letter| format!("status {letter}")),
+    ];
+    fields.into_iter().flatten().collect::<Vec<_>>().join(", ")
+}
+
+fn describe_gsa(record: &Gsa) -> String {
+    let field =
+        |name, bits: Option<u32>| bits.map(|bits| format!("{name} {:?}", f32::from_bits(bits)));
+    let satellites =
+        (!record.satellites.is_empty()).then(|| format!("satellites {:?}", record.satellites));
+    let fields = [
+        satellites,
+        field("PDOP", record.pdop),
+        field("HDOP", record.hdop),
+        field("VDOP", record.vdop),
+        record.system.map(|system| format!("system {system:?}")),
+    ];
+    fields.into_iter().flatten().collect::<Vec<_>>().join(", ")
+}
+
+pub fn describe_refusal(refusal: &Refusal) -> String {
+    let number = refusal.number();
+    match refusal {
+        Refusal::Syntax => format!("{number} Syntax"),
+        Refusal::UnknownType => format!("{number} UnknownType"),
+        Refusal::Number => format!("{number} Number"),
+        Refusal::Checksum { calculated, found } => {
+            format!("{number} Checksum ({calculated}, {found})")
+        }
+        Refusal::SystemMismatch { talker, tail } => {
+            format!("{number} SystemMismatch ({talker:?}, {tail:?})")
+        }
+        Refusal::WrongHeader { expected, found } => format!(
+            "{number} WrongHeader ({}, {})",
+            expected.escape_ascii(),
+            found.escape_ascii()
+        ),
+        other => format!("{number} {other:?}"),
+    }
+}

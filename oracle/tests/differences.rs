@@ -1,0 +1,454 @@
+//! Runs docs/DIFFERENCES.md: the tests read its tables and hold every row
+//! against the crate, so a row that is not true fails here.
+
+mod common;
+mod describe;
+mod document;
+
+use common::with_checksum;
+use describe::{describe, describe_refusal};
+use document::{all_rows, rows, section};
+use nmea::SentenceType;
+use oracle::{crate_answer, crate_gsa, crate_gsv, crate_rmc, Answer, Refusal};
+
+const MORE_DECIMALS: &str = "Beside the decimal";
+const TYPES: &str = "Types that the crate knows and we do not";
+
+/// A place of a decimal: the document's heading for it, and the rest of the
+/// shortest body around it.
+struct Place {
+    heading: &'static str,
+    before: &'static str,
+    after: &'static str,
+    limits: Limits,
+    /// Probes beyond the limits and the float of this place.
+    beyond: &'static [Probe],
+    /// Whether the crate drops what follows the number.
+    drops_the_rest: bool,
+}
+
+#[derive(Clone, Copy)]
+enum Limits {
+    /// At most 7 digits in all.
+    Short,
+    /// 1 to 3 digits before the point, at most 9 after.
+    Long,
+}
+
+/// A class of texts that are no plain decimal within limits, and one such text.
+type Probe = (&'static str, &'static str);
+
+/// Tried at every place, before those beyond its limits.
+const ANYWHERE: [Probe; 10] = [
+    ("minus sign", "-1"),
+    ("minus zero", "-0"),
+    ("plus sign", "+1"),
+    ("exponent", "1e1"),
+    ("exponent", "1E+1"),
+    ("nothing before the point", ".5"),
+    ("nothing after the point", "5."),
+    ("infinity", "inf"),
+    ("infinity", "infinity"),
+    ("not a number", "nan"),
+];
+
+/// Tried at every place, last.
+const WITH_TEXT_AFTER: Probe = ("text after the number", "1x");
+
+const BEYOND_SECONDS: [Probe; 4] = [
+    ("exponent beyond the float", "1e309"),
+    ("more than 3 digits before the point", "0001"),
+    ("more than 9 digits after the point", "0.0000000005"),
+    ("the same, rounded to a whole second", "59.9999999999"),
+];
+
+const BEYOND_MINUTES: [Probe; 3] = [
+    ("exponent beyond the float", "1e309"),
+    ("more than 3 digits before the point", "0001"),
+    ("more than 9 digits after the point", "0.0000000005"),
+];
+
+const BEYOND_SHORT: [Probe; 3] = [
+    ("exponent beyond the float", "1e39"),
+    ("more than 7 digits", "12345678"),
+    ("more than 7 digits", "1.2345678"),
+];
+
+/// A whole number and its comma are an item, unless it is above 4,294,967,295.
+const BEYOND_PDOP: [Probe; 3] = [
+    ("exponent beyond the float", "1e39"),
+    ("more than 7 digits", "5000000000"),
+    ("more than 7 digits", "1.2345678"),
+];
+
+const PLACES: [Place; 9] = [
+    Place {
+        heading: "Seconds",
+        before: "GNRMC,0000",
+        after: ",A,,,,,,,,,",
+        limits: Limits::Long,
+        beyond: &BEYOND_SECONDS,
+        drops_the_rest: true,
+    },
+    Place {
+        heading: "Minutes of latitude",
+        before: "GNRMC,,A,00",
+        after: ",N,0000,E,,,,,",
+        limits: Limits::Long,
+        beyond: &BEYOND_MINUTES,
+        drops_the_rest: false,
+    },
+    Place {
+        heading: "Minutes of longitude",
+        before: "GNRMC,,A,000,N,000",
+        after: ",E,,,,,",
+        limits: Limits::Long,
+        beyond: &BEYOND_MINUTES,
+        drops_the_rest: false,
+    },
+    Place {
+        heading: "Speed",
+        before: "GNRMC,,A,,,,,",
+        after: ",,,,",
+        limits: Limits::Short,
+        beyond: &BEYOND_SHORT,
+        drops_the_rest: false,
+    },
+    Place {
+        heading: "Course",
+        before: "GNRMC,,A,,,,,,",
+        after: ",,,",
+        limits: Limits::Short,
+        beyond: &BEYOND_SHORT,
+        drops_the_rest: false,
+    },
+    Place {
+        heading: "Variation",
+        before: "GNRMC,,A,,,,,,,,",
+        after: ",E",
+        limits: Limits::Short,
+        beyond: &BEYOND_SHORT,
+        drops_the_rest: false,
+    },
+    Place {
+        heading: "PDOP",
+        before: "GNGSA,A,1,",
+        after: ",1,1",
+        limits: Limits::Short,
+        beyond: &BEYOND_PDOP,
+        drops_the_rest: false,
+    },
+    Place {
+        heading: "HDOP",
+        before: "GNGSA,A,1,1.0,",
+        after: ",1",
+        limits: Limits::Short,
+        beyond: &BEYOND_SHORT,
+        drops_the_rest: false,
+    },
+    Place {
+        heading: "VDOP",
+        before: "GNGSA,A,1,1.0,1,",
+        after: "",
+        limits: Limits::Short,
+        beyond: &BEYOND_SHORT,
+        drops_the_rest: true,
+    },
+];
+
+impl Place {
+    fn sentence(&self, text: &str) -> String {
+        with_checksum(&format!("{}{text}{}", self.before, self.after))
+    }
+
+    fn answer(&self, text: &str) -> Answer {
+        crate_answer(self.sentence(text).as_bytes())
+    }
+
+    fn probes(&self) -> impl Iterator<Item = Probe> + '_ {
+        let beyond = self.beyond.iter().copied();
+        ANYWHERE.into_iter().chain(beyond).chain([WITH_TEXT_AFTER])
+    }
+
+    /// Whether document 01 answers Number to this text here.
+    fn is_number_refusal(&self, text: &str) -> bool {
+        !text.is_empty() && !is_plain(text, self.limits)
+    }
+}
+
+/// A plain decimal within its limits, by document 01.
+fn is_plain(text: &str, limits: Limits) -> bool {
+    let (whole, decimals) = match text.split_once('.') {
+        Some((whole, decimals)) => (whole, Some(decimals)),
+        None => (text, None),
+    };
+    let digits = |part: &str| !part.is_empty() && part.bytes().all(|byte| byte.is_ascii_digit());
+    let count = decimals.map_or(0, str::len);
+    let within = match limits {
+        Limits::Short => whole.len() + count <= 7,
+        Limits::Long => whole.len() <= 3 && count <= 9,
+    };
+    digits(whole) && decimals.is_none_or(digits) && within
+}
+
+fn number() -> String {
+    describe_refusal(&Refusal::Number)
+}
+
+#[test]
+fn every_decimal_row() {
+    for place in &PLACES {
+        for row in rows(place.heading) {
+            assert_eq!(row.sentence, place.sentence(row.text), "{}", place.heading);
+            assert!(place.is_number_refusal(row.text), "{}", row.sentence);
+            assert_eq!(row.ours, number(), "{}", row.sentence);
+            assert_eq!(
+                row.theirs,
+                describe(&place.answer(row.text)),
+                "{}",
+                row.sentence
+            );
+        }
+    }
+}
+
+#[test]
+fn a_place_lists_the_probes_that_the_crate_accepts_there() {
+    for place in &PLACES {
+        let listed: Vec<Probe> = rows(place.heading)
+            .iter()
+            .map(|row| (row.class, row.text))
+            .collect();
+        let accepted: Vec<Probe> = place
+            .probes()
+            .filter(|(_, text)| place.answer(text).number() == 0)
+            .collect();
+        assert_eq!(listed, accepted, "{}", place.heading);
+
+        // The others are a parsing error, and none is inside the domain.
+        for (_, text) in place.probes() {
+            assert!(place.is_number_refusal(text), "{}", place.sentence(text));
+            let number = place.answer(text).number();
+            assert!(matches!(number, 0 | 4), "{}", place.sentence(text));
+        }
+    }
+}
+
+#[test]
+fn seconds_that_round_to_a_whole_one() {
+    // The time type has room for a leap second behind the 59th alone.
+    let seconds = &PLACES[0];
+    assert_eq!(seconds.answer("59.9999999999").number(), 0);
+    for second in 0..59 {
+        let text = format!("{second}.9999999999");
+        assert_eq!(seconds.answer(&text), Answer::Refused(Refusal::Syntax));
+    }
+}
+
+#[test]
+fn rows_beside_the_decimal() {
+    for row in rows(MORE_DECIMALS) {
+        let body = row
+            .sentence
+            .trim_start_matches('$')
+            .split('*')
+            .next()
+            .unwrap();
+        assert_eq!(row.sentence, with_checksum(body));
+        assert!(
+            body.split(',').any(|field| field == row.text),
+            "{}",
+            row.sentence
+        );
+        assert!(!is_plain(row.text, Limits::Short), "{}", row.sentence);
+        assert_eq!(row.ours, number(), "{}", row.sentence);
+        let answer = crate_answer(row.sentence.as_bytes());
+        assert_ne!(answer, Answer::Refused(Refusal::Syntax), "{}", row.sentence);
+        assert_eq!(row.theirs, describe(&answer), "{}", row.sentence);
+    }
+}
+
+#[test]
+fn every_type_row() {
+    for row in rows(TYPES) {
+        let line = row.sentence.as_bytes();
+        let answer = match row.text {
+            "parse_bytes" => crate_answer(line),
+            "parse_rmc" => crate_rmc(line).map_or_else(Answer::Refused, Answer::Rmc),
+            "parse_gsa" => crate_gsa(line).map_or_else(Answer::Refused, Answer::Gsa),
+            "parse_gsv" => crate_gsv(line).map_or_else(Answer::Refused, Answer::Gsv),
+            function => panic!("no function {function}"),
+        };
+        let name = &row.sentence[3..6];
+        assert!(unknown_types().contains(&name), "{}", row.sentence);
+        assert_eq!(
+            row.ours,
+            describe_refusal(&Refusal::UnknownType),
+            "{}",
+            row.sentence
+        );
+        assert_eq!(row.theirs, describe(&answer), "{}", row.sentence);
+    }
+}
+
+#[test]
+fn no_row_is_left_out() {
+    let run: usize = PLACES
+        .iter()
+        .map(|place| place.heading)
+        .chain([MORE_DECIMALS, TYPES])
+        .map(|heading| rows(heading).len())
+        .sum();
+    assert_eq!(all_rows().len(), run);
+}
+
+/// The crate's types of three letters that are none of document 01's thirty.
+fn unknown_types() -> Vec<&'static str> {
+    let thirty = "AAM ALM APA BOD BWC BWW DBK DBS DPT GBS GGA GLL GNS GSA GST GSV HDT MDA MTW MWV \
+                  RMC RMZ TTM TXT VHW VTG WNC ZDA ZFO ZTG";
+    SentenceType::TYPES
+        .iter()
+        .map(SentenceType::as_str)
+        .filter(|name| name.len() == 3 && !thirty.split_whitespace().any(|known| known == *name))
+        .collect()
+}
+
+#[test]
+fn the_list_of_types() {
+    let listed: Vec<&str> = section(TYPES)
+        .skip_while(|line| !line.starts_with("```"))
+        .skip(1)
+        .take_while(|line| !line.starts_with("```"))
+        .flat_map(str::split_whitespace)
+        .collect();
+    assert_eq!(listed, unknown_types());
+
+    for name in listed {
+        let body = format!("GN{name},");
+        let line = with_checksum(&body);
+        let expected = Answer::Other(name.as_bytes().try_into().unwrap());
+        assert_eq!(crate_answer(line.as_bytes()), expected);
+
+        let calculated = body.bytes().fold(0, |sum, byte| sum ^ byte);
+        let found = calculated ^ 1;
+        let line = format!("${body}*{found:02X}");
+        let expected = Answer::Refused(Refusal::Checksum { calculated, found });
+        assert_eq!(crate_answer(line.as_bytes()), expected);
+
+        let line = format!("$GN{name}");
+        let expected = Answer::Refused(Refusal::Syntax);
+        assert_eq!(crate_answer(line.as_bytes()), expected);
+    }
+}
+
+#[test]
+fn the_type_of_six_letters() {
+    let long: Vec<&str> = SentenceType::TYPES
+        .iter()
+        .map(SentenceType::as_str)
+        .filter(|name| name.len() != 3)
+        .collect();
+    assert_eq!(long, ["HWBIAS"]);
+    let line = with_checksum("GNHWBIAS,");
+    assert_eq!(
+        crate_answer(line.as_bytes()),
+        Answer::Refused(Refusal::Syntax)
+    );
+}
+
+#[test]
+fn letters_in_any_case() {
+    for place in &PLACES {
+        for word in ["inf", "infinity", "nan"] {
+            let expected = describe(&place.answer(word));
+            for mask in 0..1 << word.len() {
+                let mixed: String = word
+                    .chars()
+                    .enumerate()
+                    .map(|(i, letter)| match mask >> i & 1 {
+                        0 => letter,
+                        _ => letter.to_ascii_uppercase(),
+                    })
+                    .collect();
+                assert_eq!(describe(&place.answer(&mixed)), expected, "{mixed}");
+            }
+        }
+    }
+}
+
+/// How many bytes of a text the crate takes as a number, by the document's
+/// words. The words of letters are left to the test above.
+fn taken(text: &str) -> Option<usize> {
+    let bytes = text.as_bytes();
+    let sign = |at: usize| usize::from(matches!(bytes.get(at), Some(b'+' | b'-')));
+    let digits = |at: usize| {
+        bytes[at..]
+            .iter()
+            .take_while(|byte| byte.is_ascii_digit())
+            .count()
+    };
+
+    let start = sign(0);
+    let whole = digits(start);
+    let mut at = start + whole;
+    if bytes.get(at) == Some(&b'.') {
+        at += 1 + digits(at + 1);
+    }
+    if at - start == 0 || &text[start..at] == "." {
+        return None;
+    }
+    if matches!(bytes.get(at), Some(b'e' | b'E')) {
+        at += 1;
+        at += sign(at);
+        let exponent = digits(at);
+        if exponent == 0 {
+            return None;
+        }
+        at += exponent;
+    }
+    Some(at)
+}
+
+/// All texts of the letters, from one to `longest` of them.
+fn texts(letters: &str, longest: usize) -> Vec<String> {
+    let mut all: Vec<String> = vec![];
+    let mut last = vec![String::new()];
+    for _ in 0..longest {
+        last = last
+            .iter()
+            .flat_map(|text| letters.chars().map(move |letter| format!("{text}{letter}")))
+            .collect();
+        all.extend_from_slice(&last);
+    }
+    all
+}
+
+#[test]
+fn short_texts_are_accepted_exactly_by_the_words() {
+    let mut tried = [0; 2];
+    for place in &PLACES {
+        for text in texts("1.+-eEx", 5) {
+            if !place.is_number_refusal(&text) {
+                continue;
+            }
+            let expected = taken(&text).is_some_and(|end| {
+                let seconds_fit = || {
+                    let value: f64 = text[..end].parse().unwrap();
+                    value.is_sign_positive() && value < 60.
+                };
+                (end == text.len() || place.drops_the_rest)
+                    && (place.heading != "Seconds" || seconds_fit())
+            });
+            let number = place.answer(&text).number();
+            assert_eq!(
+                number,
+                if expected { 0 } else { 4 },
+                "{}",
+                place.sentence(&text)
+            );
+            tried[usize::from(expected)] += 1;
+        }
+    }
+    // Neither side of the equality is empty.
+    assert!(tried.iter().all(|&count| count > 1000), "{tried:?}");
+}

@@ -1,0 +1,664 @@
+//! The worked sentences and the easy errors of document 01, and the sentences
+//! in the comments of the crate's gsv.rs, gsa.rs and rmc.rs. Each expectation
+//! is written from the document's words; the crate must answer the same.
+
+mod common;
+
+use common::with_checksum;
+use oracle::{
+    crate_answer, crate_gsa, crate_gsv, crate_rmc, Answer, Date, Entry, Gsa, Gsv, Refusal, Rmc,
+    System, Time,
+};
+
+/// The three GSV lines of one group, from the comment in gsv.rs.
+const GSV_1: &str = "$GPGSV,3,1,11,03,03,111,00,04,15,270,00,06,01,010,00,13,06,292,00*74";
+const GSV_2: &str = "$GPGSV,3,2,11,14,25,170,00,16,57,208,39,18,67,296,40,19,40,246,00*74";
+const GSV_3: &str = "$GPGSV,3,3,11,22,42,067,42,24,14,311,43,27,05,244,00,,,,*4D";
+
+const RMC: &str = "$GNRMC,101500.25,A,5130.5,N,00006.0,W,4.5,270.0,290224,,,A*5F";
+
+fn answer(line: &str) -> Answer {
+    crate_answer(line.as_bytes())
+}
+
+fn refused(line: &[u8]) -> Refusal {
+    match crate_answer(line) {
+        Answer::Refused(refusal) => refusal,
+        accepted => panic!("{:?} is {accepted:?}", String::from_utf8_lossy(line)),
+    }
+}
+
+fn rmc(line: &str) -> Rmc {
+    match answer(line) {
+        Answer::Rmc(record) => record,
+        other => panic!("{line} is {other:?}"),
+    }
+}
+
+fn gsa(line: &str) -> Gsa {
+    match answer(line) {
+        Answer::Gsa(record) => record,
+        other => panic!("{line} is {other:?}"),
+    }
+}
+
+fn gsv(line: &str) -> Gsv {
+    match answer(line) {
+        Answer::Gsv(record) => record,
+        other => panic!("{line} is {other:?}"),
+    }
+}
+
+/// The float of a short decimal: the whole number divided once by the power of ten.
+fn short(whole: u32, power: u32) -> Option<u32> {
+    Some((whole as f32 / power as f32).to_bits())
+}
+
+/// The float of a position: minutes as one division, divided by 60, added to
+/// the degrees, negated for S or W. The signed count is of billionths of a
+/// minute, degrees included.
+fn position(count: i64, degrees: u8) -> Option<u64> {
+    let minutes = (count.abs() - i64::from(degrees) * 60_000_000_000) as f64 / 1e9;
+    let size = f64::from(degrees) + minutes / 60.;
+    let value = if count < 0 { -size } else { size };
+    Some(value.to_bits())
+}
+
+fn entry(satellite: u32, elevation: u16, azimuth: u16, signal: u16) -> Option<Entry> {
+    let bits = |whole: u16| Some(f32::from(whole).to_bits());
+    Some(Entry {
+        satellite,
+        elevation: bits(elevation),
+        azimuth: bits(azimuth),
+        signal: bits(signal),
+    })
+}
+
+/// An RMC record with a status and nothing else.
+fn bare_rmc(status: char) -> Rmc {
+    Rmc {
+        time: None,
+        status,
+        latitude: None,
+        longitude: None,
+        speed: None,
+        course: None,
+        date: None,
+        variation: None,
+        mode: None,
+        navigation: None,
+    }
+}
+
+// Worked sentences
+
+#[test]
+fn gsv_with_four_entries() {
+    let expected = Gsv {
+        system: System::Gps,
+        sentences: 3,
+        number: 1,
+        in_view: 11,
+        entries: [
+            entry(3, 3, 111, 0),
+            entry(4, 15, 270, 0),
+            entry(6, 1, 10, 0),
+            entry(13, 6, 292, 0),
+        ],
+    };
+    assert_eq!(answer(GSV_1), Answer::Gsv(expected));
+}
+
+#[test]
+fn gsv_second_line_of_the_comment() {
+    let expected = Gsv {
+        system: System::Gps,
+        sentences: 3,
+        number: 2,
+        in_view: 11,
+        entries: [
+            entry(14, 25, 170, 0),
+            entry(16, 57, 208, 39),
+            entry(18, 67, 296, 40),
+            entry(19, 40, 246, 0),
+        ],
+    };
+    assert_eq!(answer(GSV_2), Answer::Gsv(expected));
+}
+
+#[test]
+fn gsv_with_three_entries_and_the_fourth_absent() {
+    let expected = Gsv {
+        system: System::Gps,
+        sentences: 3,
+        number: 3,
+        in_view: 11,
+        entries: [
+            entry(22, 42, 67, 42),
+            entry(24, 14, 311, 43),
+            entry(27, 5, 244, 0),
+            None,
+        ],
+    };
+    assert_eq!(answer(GSV_3), Answer::Gsv(expected));
+}
+
+#[test]
+fn gsa_with_four_satellites() {
+    let expected = Gsa {
+        mode: 'A',
+        fix: 3,
+        satellites: vec![16, 18, 22, 24],
+        pdop: short(36, 10),
+        hdop: short(21, 10),
+        vdop: short(22, 10),
+        system: Some(System::Gps),
+    };
+    let line = "$GPGSA,A,3,,,,,,16,18,,22,24,,,3.6,2.1,2.2*3C";
+    assert_eq!(answer(line), Answer::Gsa(expected));
+}
+
+#[test]
+fn gsa_without_satellites() {
+    let expected = Gsa {
+        mode: 'A',
+        fix: 1,
+        satellites: vec![],
+        pdop: None,
+        hdop: None,
+        vdop: None,
+        system: Some(System::Gps),
+    };
+    assert_eq!(answer("$GPGSA,A,1,,,,*32"), Answer::Gsa(expected));
+}
+
+#[test]
+fn gsa_with_a_wrong_checksum() {
+    let expected = Refusal::Checksum {
+        calculated: 50,
+        found: 51,
+    };
+    assert_eq!(refused(b"$GPGSA,A,1,,,,*33"), expected);
+}
+
+#[test]
+fn rmc_worked() {
+    let expected = Rmc {
+        time: Some(Time {
+            hour: 10,
+            minute: 15,
+            second: 0,
+            nanosecond: 250_000_000,
+        }),
+        latitude: position(3_090_500_000_000, 51),
+        longitude: position(-6_000_000_000, 0),
+        speed: short(45, 10),
+        course: short(2700, 10),
+        date: Some(Date {
+            year: 2024,
+            month: 2,
+            day: 29,
+        }),
+        mode: Some('A'),
+        ..bare_rmc('A')
+    };
+    assert_eq!(answer(RMC), Answer::Rmc(expected));
+}
+
+#[test]
+fn empty_input_and_the_longest_length() {
+    assert_eq!(refused(b""), Refusal::Syntax);
+    assert_eq!(refused(&[b'x'; 102]), Refusal::Syntax);
+    assert_eq!(refused(&[b'x'; 103]), Refusal::TooLong(103));
+}
+
+#[test]
+fn bytes_that_are_not_ascii_or_not_utf8() {
+    assert_eq!(refused(&[0xC3, 0xA9]), Refusal::NotAscii);
+    assert_eq!(refused(&[0xC3, 0x28]), Refusal::BadUtf8);
+    assert_eq!(refused(&[0xED, 0xA0, 0x80]), Refusal::BadUtf8);
+}
+
+#[test]
+fn gsa_tail_of_whole_numbers() {
+    // The items eat `3,` and `2,`, so that two of the three decimals are missing.
+    let line = with_checksum("GPGSA,A,3,16,18,,22,24,3,2,1");
+    assert_eq!(refused(line.as_bytes()), Refusal::Syntax);
+}
+
+#[test]
+fn bad_utf8_at_the_end_of_300_bytes() {
+    let mut line = [b'x'; 300];
+    line[299] = 0xC3;
+    assert_eq!(refused(&line), Refusal::BadUtf8);
+}
+
+#[test]
+fn lines_of_the_log() {
+    // The counts of the log program, over the crate's answers. The crate knows
+    // no blank lines, so these are told apart first.
+    let log = [GSV_1, GSV_2, GSV_3, "", "$GPGSA,A,1,,,,*33"];
+    let (blank, filled): (Vec<&str>, Vec<&str>) = log.iter().partition(|line| line.is_empty());
+    let numbers: Vec<u8> = filled.iter().map(|line| answer(line).number()).collect();
+    assert_eq!(log.len(), 5);
+    assert_eq!(blank.len(), 1);
+    assert_eq!(numbers, [0, 0, 0, 6]);
+
+    // One group: numbered 1 to 3, with equal system, n and in-view count.
+    let heads: Vec<_> = filled[..3]
+        .iter()
+        .map(|line| gsv(line))
+        .map(|record| {
+            (
+                record.system,
+                record.sentences,
+                record.number,
+                record.in_view,
+            )
+        })
+        .collect();
+    let head = |number| (System::Gps, 3, number, 11);
+    assert_eq!(heads, [head(1), head(2), head(3)]);
+}
+
+// Easy errors
+
+#[test]
+fn elevation_with_a_sign() {
+    let line = with_checksum("GPGSV,1,1,03,01,40,083,46,02,-5,308,41,12,07,344,39");
+    let expected = [entry(1, 40, 83, 46), None, None, None];
+    assert_eq!(gsv(&line).entries, expected);
+}
+
+#[test]
+fn entry_without_its_last_comma() {
+    let line = with_checksum("GLGSV,3,3,09,88,07,028");
+    let expected = Gsv {
+        system: System::Glonass,
+        sentences: 3,
+        number: 3,
+        in_view: 9,
+        entries: [None; 4],
+    };
+    assert_eq!(answer(&line), Answer::Gsv(expected));
+
+    // With its last comma the signal alone is missing.
+    let line = with_checksum("GLGSV,3,3,09,88,07,028,");
+    let expected = Entry {
+        signal: None,
+        ..entry(88, 7, 28, 0).unwrap()
+    };
+    assert_eq!(gsv(&line).entries, [Some(expected), None, None, None]);
+}
+
+#[test]
+fn length_is_tested_after_utf8_and_ascii() {
+    let long = |end: &[u8]| [&[b'x'; 103], end].concat();
+    assert_eq!(refused(&long(&[0xC3])), Refusal::BadUtf8);
+    assert_eq!(refused(&long(&[0xC3, 0xA9])), Refusal::NotAscii);
+    assert_eq!(refused(&long(b"")), Refusal::TooLong(103));
+}
+
+#[test]
+fn whole_number_pdop_is_an_item() {
+    let line = with_checksum("GPGSA,A,3,16,18,3,2.1,2.2");
+    assert_eq!(refused(line.as_bytes()), Refusal::Syntax);
+
+    let line = with_checksum("GPGSA,A,3,16,18,3,2.1,2,1");
+    let expected = Gsa {
+        mode: 'A',
+        fix: 3,
+        satellites: vec![16, 18, 3],
+        pdop: short(21, 10),
+        hdop: short(2, 1),
+        vdop: short(1, 1),
+        system: Some(System::Gps),
+    };
+    assert_eq!(answer(&line), Answer::Gsa(expected));
+}
+
+#[test]
+fn items_after_the_eighteenth_are_dropped() {
+    let items = |last: u32| (1..=last).map(|n| format!("{n},")).collect::<String>();
+    for last in [18, 19, 20] {
+        let line = with_checksum(&format!("GPGSA,A,3,{}3.6,2.1,2.2", items(last)));
+        assert_eq!(gsa(&line).satellites, (1..=18).collect::<Vec<u32>>());
+    }
+    // An empty item is one of the eighteen, though it is not kept.
+    let line = with_checksum(&format!("GPGSA,A,3,,{}3.6,2.1,2.2", items(18)));
+    assert_eq!(gsa(&line).satellites, (1..=17).collect::<Vec<u32>>());
+}
+
+// Sentences in the comments
+
+#[test]
+fn comment_checksums_that_do_not_hold() {
+    let wrong = |calculated, found| Refusal::Checksum { calculated, found };
+    assert_eq!(
+        refused(b"$GLGSV,3,3,09,88,07,028*51"),
+        wrong(0x7D, 0x51),
+        "gsv.rs"
+    );
+    assert_eq!(
+        refused(b"$IDGSV,2,1,08,01,40,083,46,02,17,308,41,12,07,344,39,14,22,228,45*75"),
+        wrong(0x6F, 0x75),
+        "gsv.rs"
+    );
+    assert_eq!(
+        refused(b"$GPGSA,A,3,19,28,14,18,27,22,31,39,,,,,1.7,1.0,1.3*35"),
+        wrong(0x34, 0x35),
+        "gsa.rs"
+    );
+}
+
+#[test]
+fn comment_gsv_of_an_unknown_talker() {
+    // ID names no system, and the talker decides before the body.
+    let body = "IDGSV,2,1,08,01,40,083,46,02,17,308,41,12,07,344,39,14,22,228,45";
+    let line = with_checksum(body);
+    assert_eq!(refused(line.as_bytes()), Refusal::UnknownTalker(*b"ID"));
+
+    // The same body from a known talker.
+    let expected = Gsv {
+        system: System::Gps,
+        sentences: 2,
+        number: 1,
+        in_view: 8,
+        entries: [
+            entry(1, 40, 83, 46),
+            entry(2, 17, 308, 41),
+            entry(12, 7, 344, 39),
+            entry(14, 22, 228, 45),
+        ],
+    };
+    let line = with_checksum(&body.replace("ID", "GP"));
+    assert_eq!(answer(&line), Answer::Gsv(expected));
+}
+
+#[test]
+fn comment_gsa_of_eight_satellites() {
+    let line = with_checksum("GPGSA,A,3,19,28,14,18,27,22,31,39,,,,,1.7,1.0,1.3");
+    let expected = Gsa {
+        mode: 'A',
+        fix: 3,
+        satellites: vec![19, 28, 14, 18, 27, 22, 31, 39],
+        pdop: short(17, 10),
+        hdop: short(10, 10),
+        vdop: short(13, 10),
+        system: Some(System::Gps),
+    };
+    assert_eq!(answer(&line), Answer::Gsa(expected));
+}
+
+#[test]
+fn comment_gsa_of_two_talkers_in_one_cycle() {
+    let expected = Gsa {
+        mode: 'A',
+        fix: 3,
+        satellites: vec![23, 31, 22, 16, 3, 7],
+        pdop: short(18, 10),
+        hdop: short(11, 10),
+        vdop: short(14, 10),
+        system: Some(System::Gps),
+    };
+    let line = "$GPGSA,A,3,23,31,22,16,03,07,,,,,,,1.8,1.1,1.4*3E";
+    assert_eq!(answer(line), Answer::Gsa(expected.clone()));
+
+    let expected = Gsa {
+        satellites: vec![214],
+        system: Some(System::Beidou),
+        ..expected
+    };
+    let line = "$BDGSA,A,3,214,,,,,,,,,,,,1.8,1.1,1.4*18";
+    assert_eq!(answer(line), Answer::Gsa(expected));
+}
+
+#[test]
+fn comment_gsa_of_a_talker_that_names_no_system() {
+    let expected = Gsa {
+        mode: 'A',
+        fix: 3,
+        satellites: vec![31, 26, 21],
+        pdop: short(377, 100),
+        hdop: short(255, 100),
+        vdop: short(277, 100),
+        system: None,
+    };
+    let line = "$GNGSA,A,3,31,26,21,,,,,,,,,,3.77,2.55,2.77*1A";
+    assert_eq!(answer(line), Answer::Gsa(expected.clone()));
+
+    let expected = Gsa {
+        satellites: vec![75, 86, 87],
+        ..expected
+    };
+    let line = "$GNGSA,A,3,75,86,87,,,,,,,,,,3.77,2.55,2.77*1C";
+    assert_eq!(answer(line), Answer::Gsa(expected));
+}
+
+#[test]
+fn comment_rmc() {
+    // The comment leaves out `$` and the talker.
+    let body = "RMC,225446.33,A,4916.45,N,12311.12,W,000.5,054.7,191194,020.3,E,A";
+    assert_eq!(refused(format!("{body}*68").as_bytes()), Refusal::Syntax);
+    let wrong = Refusal::Checksum {
+        calculated: 0x2B,
+        found: 0x68,
+    };
+    assert_eq!(refused(format!("$GP{body}*68").as_bytes()), wrong);
+
+    let expected = Rmc {
+        time: Some(Time {
+            hour: 22,
+            minute: 54,
+            second: 46,
+            nanosecond: 330_000_000,
+        }),
+        latitude: position((49 * 60_000 + 16_450) * 1_000_000, 49),
+        longitude: position((123 * 60_000 + 11_120) * -1_000_000, 123),
+        speed: short(5, 10),
+        course: short(547, 10),
+        date: Some(Date {
+            year: 1994,
+            month: 11,
+            day: 19,
+        }),
+        variation: short(203, 10),
+        mode: Some('A'),
+        ..bare_rmc('A')
+    };
+    let line = with_checksum(&format!("GP{body}"));
+    assert_eq!(answer(&line), Answer::Rmc(expected));
+}
+
+// Cases that the rules give in passing
+
+#[test]
+fn checksum_bytes() {
+    // `+A` reads as 10, `-` is no digit, and a digit is read in either case.
+    assert_eq!(with_checksum("GPTXT,A"), "$GPTXT,A*22");
+    assert_eq!(with_checksum("GPTXT,i"), "$GPTXT,i*0A");
+    assert_eq!(answer("$GPTXT,i*0A"), Answer::Other(*b"TXT"));
+    assert_eq!(answer("$GPTXT,i*0a"), Answer::Other(*b"TXT"));
+    assert_eq!(answer("$GPTXT,i*+A"), Answer::Other(*b"TXT"));
+    assert_eq!(refused(b"$GPTXT,i*-A"), Refusal::Syntax);
+    let wrong = Refusal::Checksum {
+        calculated: 0x22,
+        found: 10,
+    };
+    assert_eq!(refused(b"$GPTXT,A*+A"), wrong);
+}
+
+#[test]
+fn text_after_the_checksum_counts_only_in_the_length() {
+    let line = with_checksum("GPTXT,i");
+    let longest = format!("{line:x<102}");
+    assert_eq!(answer(&longest), Answer::Other(*b"TXT"));
+    let longer = format!("{line:x<103}");
+    assert_eq!(refused(longer.as_bytes()), Refusal::TooLong(103));
+}
+
+#[test]
+fn two_byte_number_with_a_plus() {
+    let line = with_checksum("GPRMC,+5+607,A,+12,N,+123,E,,,+1+2+3,,");
+    let expected = Rmc {
+        time: Some(Time {
+            hour: 5,
+            minute: 6,
+            second: 7,
+            nanosecond: 0,
+        }),
+        latitude: position(62_000_000_000, 1),
+        longitude: position(723_000_000_000, 12),
+        date: Some(Date {
+            year: 2003,
+            month: 2,
+            day: 1,
+        }),
+        ..bare_rmc('A')
+    };
+    assert_eq!(answer(&line), Answer::Rmc(expected));
+}
+
+#[test]
+fn lone_variation_letter() {
+    // The comma at once means no variation; no comma follows, so `E,A` is the rest.
+    let line = with_checksum("GPRMC,,V,,,,,,,,,E,A");
+    assert_eq!(answer(&line), Answer::Rmc(bare_rmc('V')));
+}
+
+#[test]
+fn zero_variation_to_the_west_is_minus_zero() {
+    let east = with_checksum("GPRMC,,A,,,,,,,,0,E");
+    let west = with_checksum("GPRMC,,A,,,,,,,,0,W");
+    assert_eq!(rmc(&east).variation, Some(0));
+    assert_eq!(rmc(&west).variation, Some(0x8000_0000));
+}
+
+#[test]
+fn unknown_mode_letter_is_not_eaten() {
+    let letters = |tail: &str| {
+        let record = rmc(&with_checksum(&format!("GPRMC,,A,,,,,,,,,{tail}")));
+        (record.mode, record.navigation)
+    };
+    assert_eq!(letters(",D,S"), (Some('D'), Some('S')));
+    assert_eq!(letters(",,S"), (None, Some('S')));
+    assert_eq!(letters(",X,S"), (None, None));
+    assert_eq!(letters(",D,X"), (Some('D'), None));
+}
+
+#[test]
+fn types_that_are_not_read_are_other() {
+    let others = "AAM ALM APA BOD BWC BWW DBK DBS DPT GBS GGA GLL GNS GST HDT MDA MTW MWV RMZ \
+                  TTM TXT VHW VTG WNC ZDA ZFO ZTG";
+    let mut count = 0;
+    for name in others.split_whitespace() {
+        let line = with_checksum(&format!("GP{name},"));
+        let expected = Answer::Other(name.as_bytes().try_into().unwrap());
+        assert_eq!(answer(&line), expected);
+        count += 1;
+    }
+    assert_eq!(count, 27);
+}
+
+#[test]
+fn parsing_errors_where_we_answer_more() {
+    // Three letters in no list: we answer UnknownType (5).
+    let line = with_checksum("GPXYZ,");
+    assert_eq!(refused(line.as_bytes()), Refusal::Syntax);
+    // A text that no reader of floats takes: we answer Number (9).
+    let line = with_checksum("GPRMC,,A,,,,,fast,,,,");
+    assert_eq!(refused(line.as_bytes()), Refusal::Syntax);
+}
+
+#[test]
+fn talker_and_tail_of_two_systems() {
+    let mismatch = |talker, tail| Refusal::SystemMismatch { talker, tail };
+    let line = with_checksum("GPGSA,A,1,,,,2");
+    assert_eq!(
+        refused(line.as_bytes()),
+        mismatch(System::Gps, System::Glonass)
+    );
+    let line = with_checksum("GBGSA,A,3,16,3.6,2.1,2.2,3");
+    assert_eq!(
+        refused(line.as_bytes()),
+        mismatch(System::Beidou, System::Galileo)
+    );
+}
+
+// Readers of one type
+
+#[test]
+fn readers_of_one_type_accept_their_own() {
+    let gsa_line = "$GPGSA,A,3,,,,,,16,18,,22,24,,,3.6,2.1,2.2*3C";
+    assert_eq!(crate_rmc(RMC.as_bytes()), Ok(rmc(RMC)));
+    assert_eq!(crate_gsa(gsa_line.as_bytes()), Ok(gsa(gsa_line)));
+    assert_eq!(crate_gsv(GSV_1.as_bytes()), Ok(gsv(GSV_1)));
+}
+
+#[test]
+fn readers_of_one_type_refuse_other_known_types() {
+    let wrong = |expected: &[u8; 3], found: &[u8; 3]| Refusal::WrongHeader {
+        expected: *expected,
+        found: *found,
+    };
+    let dbs = with_checksum("GPDBS,");
+    assert_eq!(crate_rmc(GSV_1.as_bytes()), Err(wrong(b"RMC", b"GSV")));
+    assert_eq!(crate_gsa(RMC.as_bytes()), Err(wrong(b"GSA", b"RMC")));
+    assert_eq!(crate_gsv(dbs.as_bytes()), Err(wrong(b"GSV", b"DBS")));
+    // The talker XX names no system, but the type comes first.
+    let line = with_checksum("XXRMC,");
+    assert_eq!(crate_gsv(line.as_bytes()), Err(wrong(b"GSV", b"RMC")));
+}
+
+#[test]
+fn readers_of_one_type_frame_before_they_look_at_the_type() {
+    let found = Refusal::Checksum {
+        calculated: 50,
+        found: 51,
+    };
+    assert_eq!(crate_rmc(b"$GPGSA,A,1,,,,*33"), Err(found));
+    assert_eq!(crate_gsv(b"$GPGSA,A,1,,,,*"), Err(Refusal::Syntax));
+    assert_eq!(crate_gsa(&[b'x'; 103]), Err(Refusal::TooLong(103)));
+    assert_eq!(crate_rmc(&[0xC3, 0xA9]), Err(Refusal::NotAscii));
+    assert_eq!(crate_gsv(&[0xC3, 0x28]), Err(Refusal::BadUtf8));
+}
+
+#[test]
+fn refusal_numbers() {
+    let table = [
+        (1, Refusal::BadUtf8),
+        (2, Refusal::NotAscii),
+        (3, Refusal::TooLong(103)),
+        (4, Refusal::Syntax),
+        (5, Refusal::UnknownType),
+        (
+            6,
+            Refusal::Checksum {
+                calculated: 50,
+                found: 51,
+            },
+        ),
+        (7, Refusal::UnknownTalker(*b"ID")),
+        (
+            8,
+            Refusal::SystemMismatch {
+                talker: System::Gps,
+                tail: System::Glonass,
+            },
+        ),
+        (9, Refusal::Number),
+        (
+            10,
+            Refusal::WrongHeader {
+                expected: *b"RMC",
+                found: *b"GSV",
+            },
+        ),
+        (11, Refusal::BadTime),
+    ];
+    for (number, refusal) in table {
+        assert_eq!(refusal.number(), number);
+        assert_eq!(Answer::Refused(refusal).number(), number);
+    }
+    assert_eq!(Answer::Other(*b"DBS").number(), 0);
+}

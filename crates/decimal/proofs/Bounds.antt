@@ -42,13 +42,13 @@ sized lim v m w n z h k a b c =
     let r : 10 ^ m * 10 ^ n ≤ 10 ^ lim .before * 10 ^ n = mul-le-mul-right (10 ^ n) (under m (lim .before) a) in
     record { plus = refl; few = b; fewer = omega arith; small = omega arith; front = omega arith }
 
-record Fit (lim : Limits) (m n : ℕ) : Type 0 where
-  before : m ≤ lim .before
-  after : n ≤ lim .after
-  all : m + n ≤ lim .all
+pub record Fit (lim : Limits) (m n : ℕ) : Type 0 where
+  pub before : m ≤ lim .before
+  pub after : n ≤ lim .after
+  pub all : m + n ≤ lim .all
 
-fit : (lim : Limits) (m n : ℕ) → fits lim m n ≡ true → Fit lim m n
-fit lim m n e = by (leb m (lim .before)) (leb n (lim .after)) (leb (m + n) (lim .all)) refl refl refl e
+pub fitting : (lim : Limits) (m n : ℕ) → fits lim m n ≡ true → Fit lim m n
+fitting lim m n e = by (leb m (lim .before)) (leb n (lim .after)) (leb (m + n) (lim .all)) refl refl refl e
   where
     by : (t u v : Bool) → leb m (lim .before) ≡ t → leb n (lim .after) ≡ u → leb (m + n) (lim .all) ≡ v → (t && u && v) ≡ true → Fit lim m n
     by true true true e f g h = record { before = leb-true _ _ e; after = leb-true _ _ f; all = leb-true _ _ g }
@@ -75,7 +75,7 @@ plain-bounded lim t {d} e = by (ltb 0 (length (digits t))) (fraction (afterDigit
         → cond {A = Option Decimal} u (some (unsigned (valueFrom (valueFrom 0 (digits t)) es) (length es))) none ≡ some d → Bounded lim d
     in-limits es true f z g e =
         let h : unsigned (valueFrom (valueFrom 0 (digits t)) es) (length es) ≡ d = cc in
-        let k = fit lim (length (digits t)) (length es) f in
+        let k = fitting lim (length (digits t)) (length es) f in
         subst (λ (x : Decimal). Bounded lim x) h
         (sized lim (valueFrom 0 (digits t)) (length (digits t)) (valueFrom (valueFrom 0 (digits t)) es) (length es) z
         (omega (arith, value-lt 0 t)) (tail (afterDigits t) es g .lt (valueFrom 0 (digits t))) (k .before) (k .after) (k .all))

@@ -114,7 +114,7 @@ module _ (lim : Limits) (ds : List ℕ) (f : Option (List ℕ)) (p : List ℕ) w
       ∙ ap (λ (t : Bool). orNumber (cond t (some (unsigned (valueFrom (valueFrom 0 ds) es) (length es))) none) p) h
 
 module _ (lim : Limits) (m n : ℕ) where
-  fit : m ≤ lim .before → n ≤ lim .after → m + n ≤ lim .all → fits lim m n ≡ true
+  pub fit : m ≤ lim .before → n ≤ lim .after → m + n ≤ lim .all → fits lim m n ≡ true
   fit h k j = rw (le-leb _ _ h, le-leb _ _ k, le-leb _ _ j)
 
   not-fit : (m ≤ lim .before → n ≤ lim .after → m + n ≤ lim .all → ⊥) → fits lim m n ≡ false

@@ -5,3 +5,4 @@ pub mod Decimals
 pub mod Bounds
 pub mod Steps
 pub mod Facts
+pub mod Exactly

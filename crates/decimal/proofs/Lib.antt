@@ -6,3 +6,4 @@ pub mod Bounds
 pub mod Steps
 pub mod Facts
 pub mod Exactly
+pub mod NotNan

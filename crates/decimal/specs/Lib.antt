@@ -3,3 +3,4 @@ pub mod Plain
 pub mod Places
 pub mod Run
 pub mod Answer
+pub mod Bits

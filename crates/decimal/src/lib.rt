@@ -9,6 +9,7 @@ ghost use Rattle.text.specs.Placed.{Reads};
 ghost use Rattle.decimal.specs.Decimal.{decimal, limits};
 ghost use Rattle.decimal.specs.Run.{run, atEnd};
 ghost use Rattle.decimal.specs.Places.{shortDecimal, longDecimal};
+ghost use Rattle.decimal.specs.Bits.{bitsOf};
 ghost use Rattle.decimal.specs.Answer.{ran, found, shortAt, longAt};
 use text::Next;
 
@@ -206,4 +207,18 @@ pub fn long_decimal(s: &[u8], at: usize) -> LongAt
         }
         Found::Number => LongAt::Number,
     }
+}
+
+// The bits of an f32; of a NaN, which no decimal is, those of the quiet one.
+pub fn bits_f32(x: f32) -> u32
+    ensures { λ r. ⌜ r ≡ bitsOf binary32 0x7FC00000 x ⌝ }
+{
+    if x == x { f32::to_bits(x) } else { 0x7FC00000 }
+}
+
+// The bits of an f64; of a NaN, which no decimal is, those of the quiet one.
+pub fn bits_f64(x: f64) -> u64
+    ensures { λ r. ⌜ r ≡ bitsOf binary64 0x7FF8000000000000 x ⌝ }
+{
+    if x == x { f64::to_bits(x) } else { 0x7FF8000000000000 }
 }

@@ -4,3 +4,4 @@ pub mod Bytes
 pub mod Number
 pub mod Answer
 pub mod Units
+pub mod Value

@@ -1,0 +1,76 @@
+-- The data of a GSV sentence: satellites in view, four to a sentence.
+--
+--     3,1,11,03,03,111,00,04,15,270,00,06,01,010,00,13,06,292,00
+--     | | |  |  |  |   |  `- three entries more, like the first
+--     | | |  |  |  |   `- signal strength, in dB, if it is known
+--     | | |  |  |  `- azimuth, in degrees from true north
+--     | | |  |  `- elevation, in degrees
+--     | | |  `- the satellite
+--     | | `- satellites in view, in all sentences of the group together
+--     | `- which sentence of the group this is
+--     `- sentences of the group
+use Prim.Native.Nat.{ℕ}
+use mathlib.Core.List.{List, [], _∷_}
+use mathlib.Core.Option.{Option, none, some}
+use Rattle.text.specs.Bytes.{byte}
+use Rattle.text.specs.Reader.{got, Reader, _>>=_, _>>_, pure, opt, char}
+use Rattle.text.specs.Number.{number}
+
+-- a satellite in view; what may be absent is a whole number too
+pub record Satellite : Type 0 where
+  pub id : ℕ
+  pub elevation : Option ℕ
+  pub azimuth : Option ℕ
+  pub signal : Option ℕ
+
+-- a closing comma, unless the data ends
+unfoldable pub closing : Reader (Unit {0})
+closing [] = got tt []
+closing (b ∷ l) = char (byte ",") (b ∷ l)
+
+-- a number with its comma
+unfoldable pub counted : ℕ → Reader ℕ
+counted max = do
+  n ← number max
+  char (byte ",")
+  pure n
+
+-- a number that may be absent, with its comma
+unfoldable pub cell : ℕ → Reader (Option ℕ)
+cell max = do
+  n ← opt (number max)
+  char (byte ",")
+  pure n
+
+-- parse_gsv_sat_info: the greatest u32, and three times the greatest i32
+unfoldable pub entry : Reader Satellite
+entry = do
+  id ← counted 4294967295
+  elevation ← cell 2147483647
+  azimuth ← cell 2147483647
+  signal ← opt (number 2147483647)
+  closing
+  pure (record { id = id; elevation = elevation; azimuth = azimuth; signal = signal })
+
+-- sentences of the group, which of them this is, satellites in view, and the four entries; an entry that does not match is
+-- absent and eats nothing, and so are all after it
+pub record Gsv : Type 0 where
+  pub count : ℕ
+  pub index : ℕ
+  pub view : ℕ
+  pub first : Option Satellite
+  pub second : Option Satellite
+  pub third : Option Satellite
+  pub fourth : Option Satellite
+
+-- do_parse_gsv: three times the greatest u16
+unfoldable pub gsv : Reader Gsv
+gsv = do
+  count ← counted 65535
+  index ← counted 65535
+  view ← counted 65535
+  first ← opt entry
+  second ← opt entry
+  third ← opt entry
+  fourth ← opt entry
+  pure (record { count = count; index = index; view = view; first = first; second = second; third = third; fourth = fourth })

@@ -1,0 +1,238 @@
+// GSV, satellites in view: the reader of its data, and the system that its talker names.
+// The data: sentences of the group, which of them this is, satellites in view, and four entries.
+ghost use mathlib.Core.Path.{_≡_};
+ghost use Rattle.text.specs.Reader.{opt};
+ghost use Rattle.text.specs.Placed.{Reads};
+ghost use Rattle.text.specs.Value.{value};
+ghost use Rattle.text.specs.Answer.{whole, next};
+ghost use Rattle.gsv.specs.Talker.{systemOf};
+ghost use Rattle.gsv.specs.Gsv.{closing, counted, cell, entry, gsv};
+ghost use Rattle.gsv.specs.Answer.{talker, inCell, entryAt, slotAt, gsvRead};
+use text::Held;
+use text::Next;
+use text::Whole;
+
+// The system that satellites belong to.
+pub enum GnssType {
+    Beidou,
+    Galileo,
+    Gps,
+    Glonass,
+    NavIC,
+    Qzss,
+}
+
+// The system that a talker names, if it names one.
+pub enum TalkerOf {
+    Unknown,
+    Is(GnssType),
+}
+
+// The system of a talker whose first letter is G.
+fn of_g(b: u8) -> TalkerOf
+    ensures { λ r. ⌜ talker r ≡ systemOf 71 b ⌝ }
+{
+    match b {
+        b'A' => TalkerOf::Is(GnssType::Galileo),
+        b'B' => TalkerOf::Is(GnssType::Beidou),
+        b'I' => TalkerOf::Is(GnssType::NavIC),
+        b'L' => TalkerOf::Is(GnssType::Glonass),
+        b'P' => TalkerOf::Is(GnssType::Gps),
+        b'Q' => TalkerOf::Is(GnssType::Qzss),
+        _ => TalkerOf::Unknown,
+    }
+}
+
+// The system that the two talker letters name.
+pub fn gnss_type(a: u8, b: u8) -> TalkerOf
+    ensures { λ r. ⌜ talker r ≡ systemOf a b ⌝ }
+{
+    if a == b'G' {
+        return of_g(b);
+    }
+    if a == b'B' {
+        if b == b'D' {
+            return TalkerOf::Is(GnssType::Beidou);
+        }
+        return TalkerOf::Unknown;
+    }
+    if a == b'P' {
+        if b == b'Q' {
+            return TalkerOf::Is(GnssType::Qzss);
+        }
+        return TalkerOf::Unknown;
+    }
+    if a == b'Q' {
+        if b == b'Z' {
+            return TalkerOf::Is(GnssType::Qzss);
+        }
+        return TalkerOf::Unknown;
+    }
+    TalkerOf::Unknown
+}
+
+// A closing comma, unless the data ends.
+fn closing(s: &[u8], at: usize) -> Next
+    ensures { λ r. ⌜ Reads (now (s .entry)) at closing (next r) × (now (s .exit) ≡ now (s .entry)) ⌝ }
+{
+    if s.len() <= at {
+        return Next::At(at);
+    }
+    text::byte(s, at, b',')
+}
+
+// A number with its comma.
+fn counted(s: &[u8], at: usize, max: u32) -> Whole
+    ensures { λ r. ⌜ Reads (now (s .entry)) at (counted max) (whole r) × (now (s .exit) ≡ now (s .entry)) ⌝ }
+{
+    let Whole::Is(v, at) = text::number(s, at, max) else {
+        return Whole::No;
+    };
+    let Next::At(at) = text::byte(s, at, b',') else {
+        return Whole::No;
+    };
+    Whole::Is(v, at)
+}
+
+// A number that may be absent and the next place, or no match.
+pub enum Cell {
+    No,
+    Is(Held, usize),
+}
+
+// A number that may be absent, with its comma.
+fn in_cell(s: &[u8], at: usize, max: u32) -> Cell
+    ensures { λ r. ⌜ Reads (now (s .entry)) at (cell max) (inCell r) × (now (s .exit) ≡ now (s .entry)) ⌝ }
+{
+    let f = text::opt_number(s, at, max);
+    let at = f.at;
+    let Next::At(at) = text::byte(s, at, b',') else {
+        return Cell::No;
+    };
+    let v = f.value;
+    Cell::Is(v, at)
+}
+
+// A satellite in view.
+pub struct SatInfo {
+    pub id: u32,
+    pub elevation: Held,
+    pub azimuth: Held,
+    pub signal: Held,
+}
+
+// A satellite and the next place, or no match.
+pub enum EntryAt {
+    No,
+    Is(SatInfo, usize),
+}
+
+// One entry: the satellite, and elevation, azimuth and signal, each of which may be absent.
+fn parse_gsv_sat_info(s: &[u8], at: usize) -> EntryAt
+    ensures { λ r. ⌜ Reads (now (s .entry)) at entry (entryAt r) × (now (s .exit) ≡ now (s .entry)) ⌝ }
+{
+    let Whole::Is(id, at) = counted(s, at, 4294967295) else {
+        return EntryAt::No;
+    };
+    let Cell::Is(elevation, at) = in_cell(s, at, 2147483647) else {
+        return EntryAt::No;
+    };
+    let Cell::Is(azimuth, at) = in_cell(s, at, 2147483647) else {
+        return EntryAt::No;
+    };
+    let f = text::opt_number(s, at, 2147483647);
+    let at = f.at;
+    let Next::At(at) = closing(s, at) else {
+        return EntryAt::No;
+    };
+    let signal = f.value;
+    EntryAt::Is(
+        SatInfo {
+            id: id,
+            elevation: elevation,
+            azimuth: azimuth,
+            signal: signal,
+        },
+        at,
+    )
+}
+
+// A satellite that may be absent.
+pub enum Slot {
+    Empty,
+    Seen(SatInfo),
+}
+
+// A satellite that may be absent, and the next place.
+pub struct SlotAt {
+    pub slot: Slot,
+    pub at: usize,
+}
+
+// An entry, if one stands there.
+fn opt_entry(s: &[u8], at: usize) -> SlotAt
+    ensures { λ r. ⌜ Reads (now (s .entry)) at (opt entry) (slotAt r) × (now (s .exit) ≡ now (s .entry)) ⌝ }
+{
+    match parse_gsv_sat_info(s, at) {
+        EntryAt::Is(t, next) => SlotAt {
+            slot: Slot::Seen(t),
+            at: next,
+        },
+        EntryAt::No => SlotAt {
+            slot: Slot::Empty,
+            at: at,
+        },
+    }
+}
+
+// The data of a GSV sentence.
+pub struct GsvData {
+    pub count: u32,
+    pub index: u32,
+    pub view: u32,
+    pub first: Slot,
+    pub second: Slot,
+    pub third: Slot,
+    pub fourth: Slot,
+}
+
+// The data, or the refusal Syntax.
+pub enum GsvRead {
+    Syntax,
+    Is(GsvData),
+}
+
+// The whole data of a GSV sentence; what follows the fourth entry is ignored.
+pub fn do_parse_gsv(s: &[u8]) -> GsvRead
+    ensures { λ r. ⌜ (gsvRead r ≡ value (gsv (now (s .entry)))) × (now (s .exit) ≡ now (s .entry)) ⌝ }
+{
+    let Whole::Is(count, at) = counted(s, 0, 65535) else {
+        return GsvRead::Syntax;
+    };
+    let Whole::Is(index, at) = counted(s, at, 65535) else {
+        return GsvRead::Syntax;
+    };
+    let Whole::Is(view, at) = counted(s, at, 65535) else {
+        return GsvRead::Syntax;
+    };
+    let r1 = opt_entry(s, at);
+    let at = r1.at;
+    let r2 = opt_entry(s, at);
+    let at = r2.at;
+    let r3 = opt_entry(s, at);
+    let at = r3.at;
+    let r4 = opt_entry(s, at);
+    let first = r1.slot;
+    let second = r2.slot;
+    let third = r3.slot;
+    let fourth = r4.slot;
+    GsvRead::Is(GsvData {
+        count: count,
+        index: index,
+        view: view,
+        first: first,
+        second: second,
+        third: third,
+        fourth: fourth,
+    })
+}

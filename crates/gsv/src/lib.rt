@@ -32,15 +32,25 @@ pub enum TalkerOf {
 fn of_g(b: u8) -> TalkerOf
     ensures { λ r. ⌜ talker r ≡ systemOf 71 b ⌝ }
 {
-    match b {
-        b'A' => TalkerOf::Is(GnssType::Galileo),
-        b'B' => TalkerOf::Is(GnssType::Beidou),
-        b'I' => TalkerOf::Is(GnssType::NavIC),
-        b'L' => TalkerOf::Is(GnssType::Glonass),
-        b'P' => TalkerOf::Is(GnssType::Gps),
-        b'Q' => TalkerOf::Is(GnssType::Qzss),
-        _ => TalkerOf::Unknown,
+    if b == b'A' {
+        return TalkerOf::Is(GnssType::Galileo);
     }
+    if b == b'P' {
+        return TalkerOf::Is(GnssType::Gps);
+    }
+    if b == b'L' {
+        return TalkerOf::Is(GnssType::Glonass);
+    }
+    if b == b'B' {
+        return TalkerOf::Is(GnssType::Beidou);
+    }
+    if b == b'I' {
+        return TalkerOf::Is(GnssType::NavIC);
+    }
+    if b == b'Q' {
+        return TalkerOf::Is(GnssType::Qzss);
+    }
+    TalkerOf::Unknown
 }
 
 // The system that the two talker letters name.

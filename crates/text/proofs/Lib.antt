@@ -4,4 +4,4 @@ pub mod Letters
 pub mod Digits
 pub mod Parts
 pub mod Fixed
-pub mod Whole
+pub mod Texts

@@ -3,7 +3,7 @@
 -- from which nothing recovers; `got`.
 use Prim.Native.Nat.{ℕ}
 use mathlib.Core.List.{List, [], _∷_, _++_}
-use mathlib.Core.Bool.{cond, _||_}
+use mathlib.Core.Bool.{Bool, true, false, cond, _||_}
 use mathlib.Core.Option.{Option, none, some}
 use lib.Dec.{eqb}
 
@@ -71,6 +71,16 @@ char c (b ∷ l) = cond (eqb b c) (got tt l) miss
 unfoldable pub oneOf : ℕ → ℕ → Reader ℕ
 oneOf a b [] = miss
 oneOf a b (c ∷ l) = cond (eqb c a || eqb c b) (got c l) miss
+
+-- whether a byte stands in a list
+unfoldable pub among : ℕ → List ℕ → Bool
+among b [] = false
+among b (c ∷ cs) = cond (eqb b c) true (among b cs)
+
+-- nom's one_of: a byte that is one of `letters`
+unfoldable pub letterOf : List ℕ → Reader ℕ
+letterOf letters [] = miss
+letterOf letters (b ∷ l) = cond (among b letters) (got b l) miss
 
 abbrev pub prepend : {A : Type 0} → List A → Parse (List A) → Parse (List A)
 prepend ds miss = miss

@@ -1,7 +1,7 @@
 // Reading from the front of a text: a byte, a letter, whole numbers, the text up to a byte.
 // Each reader takes the whole text and a place in it, and answers the next place; past the end nothing stands.
 ghost use mathlib.Core.Path.{_≡_};
-ghost use Rattle.text.specs.Reader.{char, oneOf, opt, until};
+ghost use Rattle.text.specs.Reader.{char, oneOf, among, letterOf, opt, until};
 ghost use Rattle.text.specs.Placed.{Reads};
 ghost use Rattle.text.specs.Number.{number, two, three};
 ghost use Rattle.text.specs.Units.{unit, leadUnit};
@@ -75,6 +75,34 @@ pub fn one_of(s: &[u8], at: usize, a: u8, b: u8) -> Letter
         return Letter::Is(c, at + 1);
     }
     if c == b {
+        return Letter::Is(c, at + 1);
+    }
+    Letter::No
+}
+
+// Whether `b` is one of `letters`.
+fn has(letters: &[u8], b: u8) -> bool
+    ensures { λ r. ⌜ (r ≡ among b (now (letters .entry))) × (now (letters .exit) ≡ now (letters .entry)) ⌝ }
+{
+    let mut i: usize = 0;
+    while i < letters.len() {
+        if letters[i] == b {
+            return true;
+        }
+        i += 1;
+    }
+    false
+}
+
+// One of `letters`.
+pub fn one_among(s: &[u8], at: usize, letters: &[u8]) -> Letter
+    ensures { λ r. ⌜ Reads (now (s .entry)) at (letterOf (now (letters .entry))) (lettered r) × (now (s .exit) ≡ now (s .entry)) × (now (letters .exit) ≡ now (letters .entry)) ⌝ }
+{
+    if s.len() <= at {
+        return Letter::No;
+    }
+    let c = s[at];
+    if has(letters, c) {
         return Letter::Is(c, at + 1);
     }
     Letter::No

@@ -1,0 +1,2 @@
+pub mod Rmc
+pub mod Answer

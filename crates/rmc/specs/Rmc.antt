@@ -1,0 +1,126 @@
+-- The data of an RMC sentence: the recommended minimum of a fix.
+--
+--     101500.25,A,5130.5,N,00006.0,W,4.5,270.0,290224,3.2,W,A,V
+--     |         | |        |         |   |     |      |     | `- navigational status, from NMEA 4.1 on
+--     |         | |        |         |   |     |      |     `- mode, from NMEA 2.3 on
+--     |         | |        |         |   |     |      `- magnetic variation, E or W
+--     |         | |        |         |   |     `- date: day, month, year
+--     |         | |        |         |   `- course over ground, in degrees from true north
+--     |         | |        |         `- speed over ground, in knots
+--     |         | |        `- longitude: degrees, minutes, E or W
+--     |         | `- latitude: degrees, minutes, N or S
+--     |         `- status of the fix: A autonomous, D differential, V not valid
+--     `- time of the fix, UTC: hour, minute, seconds
+use Prim.Native.Nat.{ℕ}
+use mathlib.Core.List.{List}
+use mathlib.Core.Option.{Option, none, some}
+use Rattle.text.specs.Bytes.{byte, bytes}
+use Rattle.text.specs.Reader.{Reader, _>>=_, _>>_, pure, opt, char, letterOf}
+use Rattle.decimal.specs.Places.{Short, shortDecimal}
+use Rattle.fields.specs.Time.{Time, optHms}
+use Rattle.fields.specs.Date.{Date, optDate}
+use Rattle.fields.specs.Position.{LatLon, latLon}
+use Rattle.fields.specs.Variation.{variation}
+
+-- "Status A, D or V"
+abbrev pub fixLetters : List ℕ
+fixLetters = bytes "ADV"
+
+-- the letters of faa_mode.rs
+abbrev pub modeLetters : List ℕ
+modeLetters = bytes "ACDEFMNPRSU"
+
+-- "Again for the status, ADEMNSV"
+abbrev pub statusLetters : List ℕ
+statusLetters = bytes "ADEMNSV"
+
+-- each field up to the date has a comma after it
+unfoldable pub withComma : {A : Type 0} → Reader A → Reader A
+withComma r = do
+  a ← r
+  char (byte ",")
+  pure a
+
+abbrev pub timePlace : Reader (Option Time)
+timePlace = withComma optHms
+
+abbrev pub statusPlace : Reader ℕ
+statusPlace = withComma (letterOf fixLetters)
+
+abbrev pub positionPlace : Reader (Option LatLon)
+positionPlace = withComma latLon
+
+abbrev pub shortPlace : Reader (Option Short)
+shortPlace = withComma shortDecimal
+
+abbrev pub datePlace : Reader (Option Date)
+datePlace = withComma optDate
+
+-- where a comma stood, a letter that may be absent; an unknown letter is not eaten
+unfoldable pub ifComma : List ℕ → Option (Unit {0}) → Reader (Option ℕ)
+ifComma letters none = pure none
+ifComma letters (some u) = opt (letterOf letters)
+
+-- "an optional comma; if there, an optional letter"
+unfoldable pub afterComma : List ℕ → Reader (Option ℕ)
+afterComma letters = do
+  comma ← opt (char (byte ","))
+  ifComma letters comma
+
+-- each field but the first status may be absent
+pub record Fix : Type 0 where
+  pub time : Option Time
+  pub status : ℕ
+  pub position : Option LatLon
+
+unfoldable pub fix : Reader Fix
+fix = do
+  time ← timePlace
+  status ← statusPlace
+  position ← positionPlace
+  pure (record { time = time; status = status; position = position })
+
+pub record Motion : Type 0 where
+  pub speed : Option Short
+  pub course : Option Short
+  pub date : Option Date
+
+unfoldable pub motion : Reader Motion
+motion = do
+  speed ← shortPlace
+  course ← shortPlace
+  date ← datePlace
+  pure (record { speed = speed; course = course; date = date })
+
+pub record Letters : Type 0 where
+  pub mode : Option ℕ
+  pub status : Option ℕ
+
+unfoldable pub letters : Reader Letters
+letters = do
+  mode ← afterComma modeLetters
+  status ← afterComma statusLetters
+  pure (record { mode = mode; status = status })
+
+pub record Ending : Type 0 where
+  pub variation : Option Short
+  pub letters : Letters
+
+unfoldable pub ending : Reader Ending
+ending = do
+  v ← variation
+  ls ← letters
+  pure (record { variation = v; letters = ls })
+
+-- do_parse_rmc, in three parts; the rest is ignored
+pub record Rmc : Type 0 where
+  pub fix : Fix
+  pub motion : Motion
+  pub ending : Ending
+
+unfoldable pub rmc : Reader Rmc
+rmc = do
+  f ← fix
+  m ← motion
+  e ← ending
+  pure (record { fix = f; motion = m; ending = e })

@@ -1,0 +1,385 @@
+// RMC, the recommended minimum of a fix: the reader of its data, from left to right.
+// Each field up to the date has a comma after it; of what follows, as much is read as stands there.
+ghost use mathlib.Core.Path.{_≡_};
+ghost use Rattle.text.specs.Placed.{Reads};
+ghost use Rattle.text.specs.Value.{value};
+ghost use Rattle.text.specs.Answer.{lettered};
+ghost use Rattle.rmc.specs.Rmc.{timePlace, statusPlace, positionPlace, shortPlace, datePlace, afterComma, fix, motion, letters, ending, rmc};
+ghost use Rattle.rmc.specs.Answer.{timePlaceAt, positionPlaceAt, shortPlaceAt, datePlaceAt, letterAt, fixAt, motionAt, lettersAt, endingAt, rmcRead};
+use decimal::ShortAt;
+use decimal::ShortDecimal;
+use fields::Both;
+use fields::DateAt;
+use fields::Day;
+use fields::PlaceAt;
+use fields::TimeAt;
+use fields::TimeOfDay;
+use fields::VariationAt;
+use text::Letter;
+use text::Next;
+
+// What may be absent.
+pub enum TimeHeld {
+    Absent,
+    Is(TimeOfDay),
+}
+
+pub enum DateHeld {
+    Absent,
+    Is(Day),
+}
+
+pub enum PositionHeld {
+    Absent,
+    Is(Both),
+}
+
+pub enum ShortHeld {
+    Absent,
+    Is(ShortDecimal),
+}
+
+pub enum LetterHeld {
+    Absent,
+    Is(u8),
+}
+
+// A time that may be absent, with its comma.
+pub enum TimePlace {
+    No,
+    Is(TimeHeld, usize),
+    Number,
+    BadTime,
+}
+
+fn time_place(s: &[u8], at: usize) -> TimePlace
+    ensures { λ r. ⌜ Reads (now (s .entry)) at timePlace (timePlaceAt r) × (now (s .exit) ≡ now (s .entry)) ⌝ }
+{
+    match fields::opt_hms(s, at) {
+        TimeAt::Absent(at) => {
+            let Next::At(at) = text::byte(s, at, b',') else {
+                return TimePlace::No;
+            };
+            TimePlace::Is(TimeHeld::Absent, at)
+        }
+        TimeAt::Is(t, at) => {
+            let Next::At(at) = text::byte(s, at, b',') else {
+                return TimePlace::No;
+            };
+            TimePlace::Is(TimeHeld::Is(t), at)
+        }
+        TimeAt::Number => TimePlace::Number,
+        TimeAt::BadTime => TimePlace::BadTime,
+    }
+}
+
+// The status of the fix, with its comma.
+fn status_place(s: &[u8], at: usize) -> Letter
+    ensures { λ r. ⌜ Reads (now (s .entry)) at statusPlace (lettered r) × (now (s .exit) ≡ now (s .entry)) ⌝ }
+{
+    let Letter::Is(b, at) = text::one_among(s, at, b"ADV") else {
+        return Letter::No;
+    };
+    let Next::At(at) = text::byte(s, at, b',') else {
+        return Letter::No;
+    };
+    Letter::Is(b, at)
+}
+
+// A position that may be absent, with its comma.
+pub enum PositionPlace {
+    No,
+    Is(PositionHeld, usize),
+    Number,
+}
+
+fn position_place(s: &[u8], at: usize) -> PositionPlace
+    ensures { λ r. ⌜ Reads (now (s .entry)) at positionPlace (positionPlaceAt r) × (now (s .exit) ≡ now (s .entry)) ⌝ }
+{
+    match fields::parse_lat_lon(s, at) {
+        PlaceAt::No => PositionPlace::No,
+        PlaceAt::Absent(at) => {
+            let Next::At(at) = text::byte(s, at, b',') else {
+                return PositionPlace::No;
+            };
+            PositionPlace::Is(PositionHeld::Absent, at)
+        }
+        PlaceAt::Is(b, at) => {
+            let Next::At(at) = text::byte(s, at, b',') else {
+                return PositionPlace::No;
+            };
+            PositionPlace::Is(PositionHeld::Is(b), at)
+        }
+        PlaceAt::Number => PositionPlace::Number,
+    }
+}
+
+// A short decimal that may be absent, with its comma.
+pub enum ShortPlace {
+    No,
+    Is(ShortHeld, usize),
+    Number,
+}
+
+fn short_place(s: &[u8], at: usize) -> ShortPlace
+    ensures { λ r. ⌜ Reads (now (s .entry)) at shortPlace (shortPlaceAt r) × (now (s .exit) ≡ now (s .entry)) ⌝ }
+{
+    match decimal::short_decimal(s, at) {
+        ShortAt::Absent(at) => {
+            let Next::At(at) = text::byte(s, at, b',') else {
+                return ShortPlace::No;
+            };
+            ShortPlace::Is(ShortHeld::Absent, at)
+        }
+        ShortAt::Is(d, at) => {
+            let Next::At(at) = text::byte(s, at, b',') else {
+                return ShortPlace::No;
+            };
+            ShortPlace::Is(ShortHeld::Is(d), at)
+        }
+        ShortAt::Number => ShortPlace::Number,
+    }
+}
+
+// A date that may be absent, with its comma.
+pub enum DatePlace {
+    No,
+    Is(DateHeld, usize),
+}
+
+fn date_place(s: &[u8], at: usize) -> DatePlace
+    ensures { λ r. ⌜ Reads (now (s .entry)) at datePlace (datePlaceAt r) × (now (s .exit) ≡ now (s .entry)) ⌝ }
+{
+    match fields::opt_date(s, at) {
+        DateAt::Absent(at) => {
+            let Next::At(at) = text::byte(s, at, b',') else {
+                return DatePlace::No;
+            };
+            DatePlace::Is(DateHeld::Absent, at)
+        }
+        DateAt::Is(d, at) => {
+            let Next::At(at) = text::byte(s, at, b',') else {
+                return DatePlace::No;
+            };
+            DatePlace::Is(DateHeld::Is(d), at)
+        }
+    }
+}
+
+// A letter that may be absent, and the next place.
+pub struct LetterField {
+    pub letter: LetterHeld,
+    pub at: usize,
+}
+
+// Where a comma stands, it is eaten, and one of `letters` after it.
+fn after_comma(s: &[u8], at: usize, letters: &[u8]) -> LetterField
+    ensures { λ r. ⌜ Reads (now (s .entry)) at (afterComma (now (letters .entry))) (letterAt r) × (now (s .exit) ≡ now (s .entry)) × (now (letters .exit) ≡ now (letters .entry)) ⌝ }
+{
+    let Next::At(next) = text::byte(s, at, b',') else {
+        return LetterField {
+            letter: LetterHeld::Absent,
+            at: at,
+        };
+    };
+    match text::one_among(s, next, letters) {
+        Letter::No => LetterField {
+            letter: LetterHeld::Absent,
+            at: next,
+        },
+        Letter::Is(b, p) => LetterField {
+            letter: LetterHeld::Is(b),
+            at: p,
+        },
+    }
+}
+
+// Time, status and position.
+pub struct Fix {
+    pub time: TimeHeld,
+    pub status: u8,
+    pub position: PositionHeld,
+}
+
+pub enum FixAt {
+    No,
+    Is(Fix, usize),
+    Number,
+    BadTime,
+}
+
+fn fix_part(s: &[u8], at: usize) -> FixAt
+    ensures { λ r. ⌜ Reads (now (s .entry)) at fix (fixAt r) × (now (s .exit) ≡ now (s .entry)) ⌝ }
+{
+    match time_place(s, at) {
+        TimePlace::No => FixAt::No,
+        TimePlace::Is(time, at) => {
+            let Letter::Is(status, at) = status_place(s, at) else {
+                return FixAt::No;
+            };
+            match position_place(s, at) {
+                PositionPlace::No => FixAt::No,
+                PositionPlace::Is(position, at) => FixAt::Is(
+                    Fix {
+                        time: time,
+                        status: status,
+                        position: position,
+                    },
+                    at,
+                ),
+                PositionPlace::Number => FixAt::Number,
+            }
+        }
+        TimePlace::Number => FixAt::Number,
+        TimePlace::BadTime => FixAt::BadTime,
+    }
+}
+
+// Speed, course and date.
+pub struct Motion {
+    pub speed: ShortHeld,
+    pub course: ShortHeld,
+    pub date: DateHeld,
+}
+
+pub enum MotionAt {
+    No,
+    Is(Motion, usize),
+    Number,
+}
+
+fn motion_part(s: &[u8], at: usize) -> MotionAt
+    ensures { λ r. ⌜ Reads (now (s .entry)) at motion (motionAt r) × (now (s .exit) ≡ now (s .entry)) ⌝ }
+{
+    match short_place(s, at) {
+        ShortPlace::No => MotionAt::No,
+        ShortPlace::Is(speed, at) => match short_place(s, at) {
+            ShortPlace::No => MotionAt::No,
+            ShortPlace::Is(course, at) => {
+                let DatePlace::Is(date, at) = date_place(s, at) else {
+                    return MotionAt::No;
+                };
+                MotionAt::Is(
+                    Motion {
+                        speed: speed,
+                        course: course,
+                        date: date,
+                    },
+                    at,
+                )
+            }
+            ShortPlace::Number => MotionAt::Number,
+        },
+        ShortPlace::Number => MotionAt::Number,
+    }
+}
+
+// Mode and navigational status, which may stand behind the variation.
+pub struct Letters {
+    pub mode: LetterHeld,
+    pub status: LetterHeld,
+}
+
+pub struct LettersAt {
+    pub letters: Letters,
+    pub at: usize,
+}
+
+fn letters_part(s: &[u8], at: usize) -> LettersAt
+    ensures { λ r. ⌜ Reads (now (s .entry)) at letters (lettersAt r) × (now (s .exit) ≡ now (s .entry)) ⌝ }
+{
+    let m = after_comma(s, at, b"ACDEFMNPRSU");
+    let at = m.at;
+    let n = after_comma(s, at, b"ADEMNSV");
+    let mode = m.letter;
+    let status = n.letter;
+    LettersAt {
+        letters: Letters {
+            mode: mode,
+            status: status,
+        },
+        at: n.at,
+    }
+}
+
+// Variation and the letters behind it.
+pub struct Ending {
+    pub variation: ShortHeld,
+    pub letters: Letters,
+}
+
+pub enum EndingAt {
+    No,
+    Is(Ending, usize),
+    Number,
+}
+
+fn ending_part(s: &[u8], at: usize) -> EndingAt
+    ensures { λ r. ⌜ Reads (now (s .entry)) at ending (endingAt r) × (now (s .exit) ≡ now (s .entry)) ⌝ }
+{
+    match fields::parse_magnetic_variation(s, at) {
+        VariationAt::No => EndingAt::No,
+        VariationAt::Absent(at) => {
+            let l = letters_part(s, at);
+            let letters = l.letters;
+            EndingAt::Is(
+                Ending {
+                    variation: ShortHeld::Absent,
+                    letters: letters,
+                },
+                l.at,
+            )
+        }
+        VariationAt::Is(v, at) => {
+            let l = letters_part(s, at);
+            let letters = l.letters;
+            EndingAt::Is(
+                Ending {
+                    variation: ShortHeld::Is(v),
+                    letters: letters,
+                },
+                l.at,
+            )
+        }
+        VariationAt::Number => EndingAt::Number,
+    }
+}
+
+// The data of an RMC sentence.
+pub struct RmcData {
+    pub fix: Fix,
+    pub motion: Motion,
+    pub ending: Ending,
+}
+
+// The data, or a refusal.
+pub enum RmcRead {
+    Syntax,
+    Is(RmcData),
+    Number,
+    BadTime,
+}
+
+// The whole data of an RMC sentence; what follows the status is ignored.
+pub fn do_parse_rmc(s: &[u8]) -> RmcRead
+    ensures { λ r. ⌜ (rmcRead r ≡ value (rmc (now (s .entry)))) × (now (s .exit) ≡ now (s .entry)) ⌝ }
+{
+    match fix_part(s, 0) {
+        FixAt::No => RmcRead::Syntax,
+        FixAt::Is(fix, at) => match motion_part(s, at) {
+            MotionAt::No => RmcRead::Syntax,
+            MotionAt::Is(motion, at) => match ending_part(s, at) {
+                EndingAt::No => RmcRead::Syntax,
+                EndingAt::Is(ending, _) => RmcRead::Is(RmcData {
+                    fix: fix,
+                    motion: motion,
+                    ending: ending,
+                }),
+                EndingAt::Number => RmcRead::Number,
+            },
+            MotionAt::Number => RmcRead::Number,
+        },
+        FixAt::Number => RmcRead::Number,
+        FixAt::BadTime => RmcRead::BadTime,
+    }
+}

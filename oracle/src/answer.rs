@@ -31,6 +31,17 @@ impl Answer {
             _ => 0,
         }
     }
+
+    /// The type of an accepted line, or the refusal.
+    pub fn class(&self) -> String {
+        match self {
+            Answer::Rmc(_) => "RMC".into(),
+            Answer::Gsa(_) => "GSA".into(),
+            Answer::Gsv(_) => "GSV".into(),
+            Answer::Other(_) => "Other".into(),
+            Answer::Refused(refusal) => format!("{} {}", refusal.number(), refusal.name()),
+        }
+    }
 }
 
 /// A satellite system.

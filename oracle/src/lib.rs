@@ -1,19 +1,39 @@
-//! What crate nmea 0.8.0 answers to a line, in the terms of document 01.
+//! What crate nmea 0.8.0 answers to a line, in the terms of document 01, and
+//! whether our proved reader answers the same.
 //!
 //! The answers are plain values: floats are held by their bits, and no value
 //! borrows from the line or has a type of the crate. So an answer that was
 //! made in another way can be compared with them by `==`.
 
 mod answer;
+mod checksum;
+mod compare;
+mod exact;
+mod fields;
 mod gsa;
 mod gsv;
+mod judge;
+pub mod lines;
+mod ours;
+mod plain;
+mod program;
 mod readers;
 mod refusal;
 mod rmc;
+mod shrink;
+mod words;
 
 pub use answer::{Answer, F32Bits, F64Bits, System, TypeName};
+pub use checksum::{checksum, repaired, with_checksum};
+pub use compare::{compare, Difference, Report};
+pub use exact::{Coordinate, Decimal, Exact, WholeEntry};
+pub use fields::KNOWN_TYPES;
 pub use gsa::Gsa;
 pub use gsv::{Entry, Gsv};
+pub use judge::{judge, Domain};
+pub use ours::{Ours, LONGEST_FRAME};
+pub use plain::{is_plain, Limits};
 pub use readers::{crate_answer, crate_gsa, crate_gsv, crate_rmc};
 pub use refusal::Refusal;
 pub use rmc::{Date, Rmc, Time};
+pub use words::{answer_of, OursAnswer, Words};

@@ -1,0 +1,16 @@
+pub mod Texts
+pub mod Ranges
+pub mod Sums
+pub mod Xor
+pub mod Units
+pub mod Taken
+pub mod Binds
+pub mod Fields
+pub mod Steps
+pub mod Until
+pub mod Shape
+pub mod Judged
+pub mod OneByte
+pub mod Worked
+pub mod Only
+pub mod Within

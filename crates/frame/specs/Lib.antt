@@ -1,0 +1,6 @@
+pub mod Refused
+pub mod Types
+pub mod Checksum
+pub mod Digits
+pub mod Frame
+pub mod Answer

@@ -1,0 +1,150 @@
+// The framing of a line, part by part.
+use crate::refusal::Kind;
+use crate::refusal::Refusal;
+use crate::refusal::Talker;
+use crate::sentence::Sentence;
+use crate::sentence::known;
+use crate::sum::Digits;
+use crate::sum::checksum;
+use crate::sum::checksum_field;
+use text::Next;
+ghost use mathlib.Core.Path.{_≡_};
+ghost use Rattle.text.specs.Placed.{Reads};
+ghost use lib.Seq.{slice};
+ghost use Rattle.frame.specs.Checksum.{checksum};
+ghost use Rattle.frame.specs.Frame.{taken, sentenceType, sentence, compared, sized, frame};
+ghost use Rattle.frame.specs.Answer.{two, three, read, parts, framed};
+
+// Where the data begin, after `$`, talker, type and comma.
+const DATA: usize = 7;
+
+// A framed sentence, or why there is none.
+pub enum Framed {
+    Is(Sentence),
+    Refused(Refusal),
+}
+
+// Two bytes, or no match.
+enum Two {
+    No,
+    Is(Talker),
+}
+
+// A known type, one that is unknown, or no match.
+enum Three {
+    No,
+    Unknown,
+    Is(Kind),
+}
+
+// A sentence whose checksum is not compared yet; an unknown type; or no match.
+enum Read {
+    No,
+    Unknown,
+    Is(Sentence),
+}
+
+// Two bytes of any kind.
+fn talker(s: &[u8], at: usize) -> Two
+    ensures { λ r. ⌜ Reads (now (s .entry)) at (taken 2) (two at r) × (now (s .exit) ≡ now (s .entry)) ⌝ }
+{
+    if s.len() < 2 {
+        return Two::No;
+    }
+    if s.len() - 2 < at {
+        return Two::No;
+    }
+    Two::Is(Talker(s[at], s[at + 1]))
+}
+
+// Three bytes, and whether they are a type.
+fn sentence_type(s: &[u8], at: usize) -> Three
+    ensures { λ r. ⌜ Reads (now (s .entry)) at sentenceType (three at r) × (now (s .exit) ≡ now (s .entry)) ⌝ }
+{
+    if s.len() < 3 {
+        return Three::No;
+    }
+    if s.len() - 3 < at {
+        return Three::No;
+    }
+    let kind = Kind(s[at], s[at + 1], s[at + 2]);
+    if known(kind) {
+        return Three::Is(kind);
+    }
+    Three::Unknown
+}
+
+// A sentence, from the start of a line:
+//
+//     0 1  3   6 7       to
+//     $ GP GSA , A,1,,,, * 32
+fn sentence(s: &[u8]) -> Read
+    ensures { λ r. ⌜ Reads (now (s .entry)) 0 sentence (read (now (s .entry)) r) × (now (s .exit) ≡ now (s .entry)) ⌝ }
+{
+    let Next::At(_) = text::byte(s, 0, b'$') else {
+        return Read::No;
+    };
+    let Two::Is(talker) = talker(s, 1) else {
+        return Read::No;
+    };
+    let kind = match sentence_type(s, 3) {
+        Three::No => {
+            return Read::No;
+        }
+        Three::Unknown => {
+            return Read::Unknown;
+        }
+        Three::Is(k) => k,
+    };
+    let Next::At(_) = text::byte(s, 6, b',') else {
+        return Read::No;
+    };
+    let Next::At(to) = text::until(s, DATA, b'*') else {
+        return Read::No;
+    };
+    let Digits::Is(found) = checksum_field(s, to) else {
+        return Read::No;
+    };
+    Read::Is(Sentence::new(talker, kind, found, DATA, to))
+}
+
+// A sentence's checksum, against what the bytes between `$` and `*` come to.
+fn compared(s: &[u8], x: Sentence) -> Framed
+    ensures { λ r. ⌜ (framed (now (s .entry)) r ≡ compared (checksum (slice 1 (x .to) (now (s .entry)))) (parts (now (s .entry)) x)) × (now (s .exit) ≡ now (s .entry)) ⌝ }
+{
+    let to = x.to;
+    let found = x.checksum;
+    let calculated = checksum(s, 1, to);
+    if calculated == found {
+        return Framed::Is(x);
+    }
+    Framed::Refused(Refusal::Checksum(calculated, found))
+}
+
+// The frame of a line that is ASCII.
+fn sized(s: &[u8]) -> Framed
+    ensures { λ r. ⌜ (framed (now (s .entry)) r ≡ sized (now (s .entry))) × (now (s .exit) ≡ now (s .entry)) ⌝ }
+{
+    let n = s.len();
+    if Sentence::MAX_LEN < n {
+        return Framed::Refused(Refusal::TooLong(n));
+    }
+    match sentence(s) {
+        Read::No => Framed::Refused(Refusal::Syntax),
+        Read::Unknown => Framed::Refused(Refusal::UnknownType),
+        Read::Is(x) => compared(s, x),
+    }
+}
+
+// The frame of any line. An ASCII text is valid UTF-8, so a line that is ASCII is asked no more.
+pub fn parse_nmea_sentence(s: &[u8]) -> Framed
+    ensures { λ r. ⌜ (framed (now (s .entry)) r ≡ frame (now (s .entry))) × (now (s .exit) ≡ now (s .entry)) ⌝ }
+{
+    if utf8::is_ascii(s) {
+        return sized(s);
+    }
+    if utf8::is_utf8(s) {
+        return Framed::Refused(Refusal::NotAscii);
+    }
+    Framed::Refused(Refusal::BadUtf8)
+}

@@ -1,0 +1,112 @@
+// A framed sentence, by value: its data is a range of the line that it was read from.
+use crate::refusal::Kind;
+use crate::refusal::Talker;
+ghost use mathlib.Core.Path.{_≡_};
+ghost use Rattle.frame.specs.Types.{types, alike, among};
+ghost use Rattle.frame.specs.Answer.{letters, dataOf};
+
+// `$GPGSA,A,1,,,,*32` has the talker GP, the type GSA, the checksum 0x32, and its data `A,1,,,,` from 7 up to 14.
+pub struct Sentence {
+    pub talker: Talker,
+    pub kind: Kind,
+    pub checksum: u8,
+    // The data's first place in the line.
+    pub from: usize,
+    // The place after the data, where `*` stands.
+    pub to: usize,
+}
+
+impl Sentence {
+    // The longest line, in bytes.
+    pub const MAX_LEN: usize = 102;
+
+    // The known types.
+    pub const TYPES: [[u8; 3]; 30] = [
+        *b"AAM",
+        *b"ALM",
+        *b"APA",
+        *b"BOD",
+        *b"BWC",
+        *b"BWW",
+        *b"DBK",
+        *b"DBS",
+        *b"DPT",
+        *b"GBS",
+        *b"GGA",
+        *b"GLL",
+        *b"GNS",
+        *b"GSA",
+        *b"GST",
+        *b"GSV",
+        *b"HDT",
+        *b"MDA",
+        *b"MTW",
+        *b"MWV",
+        *b"RMC",
+        *b"RMZ",
+        *b"TTM",
+        *b"TXT",
+        *b"VHW",
+        *b"VTG",
+        *b"WNC",
+        *b"ZDA",
+        *b"ZFO",
+        *b"ZTG",
+    ];
+
+    pub fn new(talker: Talker, kind: Kind, checksum: u8, from: usize, to: usize) -> Self
+        ensures { λ r. ⌜ r ≡ record { talker = talker; kind = kind; checksum = checksum; from = from; to = to } ⌝ }
+    {
+        Self {
+            talker: talker,
+            kind: kind,
+            checksum: checksum,
+            from: from,
+            to: to,
+        }
+    }
+
+    // The data, a part of the line `s`; empty where the range does not lie in `s`.
+    pub fn data(self, s: &[u8]) -> &[u8]
+        ensures { λ r. ⌜ (now r ≡ dataOf self (now (s .entry))) × (now (s .exit) ≡ now (s .entry)) ⌝ }
+    {
+        let from = self.from;
+        let to = self.to;
+        if to < from {
+            return &s[0..0];
+        }
+        if s.len() < to {
+            return &s[0..0];
+        }
+        &s[from..to]
+    }
+}
+
+// Whether a type has these letters.
+fn same(kind: Kind, t: [u8; 3]) -> bool
+    ensures { λ r. ⌜ r ≡ alike (letters kind) t ⌝ }
+{
+    if kind.0 != t[0] {
+        return false;
+    }
+    if kind.1 != t[1] {
+        return false;
+    }
+    kind.2 == t[2]
+}
+
+// Whether a type is one of the thirty.
+pub fn known(kind: Kind) -> bool
+    ensures { λ r. ⌜ r ≡ among types (letters kind) ⌝ }
+{
+    let types = Sentence::TYPES;
+    let mut i: usize = 0;
+    while i < types.len() {
+        let t = types[i];
+        if same(kind, t) {
+            return true;
+        }
+        i += 1;
+    }
+    false
+}

@@ -1,0 +1,36 @@
+-- `empty_tail` meets its contract: commas, and then the last system, which is all of the tail. Assumes nothing.
+use mathlib.Core.Path.{refl, ap}
+use Rattle.text.specs.Answer.{next}
+use Rattle.text.proofs.Places.{stop, go}
+use Rattle.gsa.specs.Gsa.{emptyTail}
+use Rattle.gsa.proofs.Answered.{empty-of}
+use borrow.Author.Needs.{needs}
+use Rattle.gsa.proofs.empty_tail.Statement.{statement}
+use Rattle.gsa.proofs.empty_tail.Tie as tie
+
+commas-requires : tie.Need-commas-requires
+commas-requires c κs = search needs
+
+enum-known-at : tie.Need-enum-known-at
+enum-known-at c = search needs
+
+enum-told : tie.Need-enum-told
+enum-told c = search needs
+
+returns : tie.Need-returns
+unfolding emptyTail
+returns c = (stop _ (c .before .before .commas .ensures .0) (ap next (c .enum-told .given .1)), refl)
+
+last-system-requires : tie.Need-last-system-requires
+last-system-requires c κs = search needs
+
+returns-2 : tie.Need-returns-2
+unfolding emptyTail
+returns-2 c =
+    let k = c .before .before in
+    (go _ (k .before .before .commas .ensures .0) (ap next (k .at .given .1)) (empty-of (c .last-system .result) (c .last-system .ensures .0)), refl)
+
+pub empty-tail-spec : {M : Type 1} → statement M
+empty-tail-spec =
+    tie.close
+    (tie.spec commas-requires enum-known-at enum-told returns last-system-requires returns-2)

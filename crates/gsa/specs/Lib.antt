@@ -1,0 +1,4 @@
+pub mod Many
+pub mod System
+pub mod Gsa
+pub mod Answer

@@ -92,19 +92,31 @@ fn check(line: &[u8], words: &Words) -> Result<(Domain, String), Box<Difference>
     })
 }
 
-/// The difference on the shortest line that dropping bytes leads to.
+/// A difference of the same kind, on the shortest line that dropping bytes
+/// leads to.
 fn smallest(ours: &Ours, difference: &Difference) -> io::Result<Box<Difference>> {
     let mut smallest = Box::new(difference.clone());
     shrink(&difference.line, |lines| {
         for (index, (line, words)) in lines.iter().zip(ours.answers(lines)?).enumerate() {
-            if let Err(difference) = check(line, &words) {
-                smallest = difference;
-                return Ok(Some(index));
+            match check(line, &words) {
+                Err(shorter) if shorter.kind() == difference.kind() => {
+                    smallest = shorter;
+                    return Ok(Some(index));
+                }
+                _ => {}
             }
         }
         Ok(None)
     })?;
     Ok(smallest)
+}
+
+impl Difference {
+    /// The classes of the two answers. Ours has none if its words are wrong.
+    fn kind(&self) -> (Option<String>, String) {
+        let ours = answer_of(&self.ours).ok().map(|ours| ours.answer.class());
+        (ours, self.theirs.class())
+    }
 }
 
 impl fmt::Display for Report {

@@ -1,7 +1,5 @@
 use crate::{
-    exact::Exact,
-    fields::{has_unknown_type, Fields},
-    Answer, OursAnswer, Refusal,
+    exact::Exact, known::has_unknown_type, number::wrong_decimal, Answer, OursAnswer, Refusal,
 };
 
 /// Where a line stands that has the answers it must have.
@@ -16,25 +14,35 @@ pub enum Domain {
 
 /// Holds our answer to a line against the crate's. An error says why the two
 /// may not stand together.
+///
+/// Where the domain ends is not left to our answer: one that is wrongly
+/// Number would else be excused, and so would one that accepts, as the crate
+/// does, what document 01 refuses.
 pub fn judge(line: &[u8], ours: &OursAnswer, theirs: &Answer) -> Result<Domain, String> {
-    // The domain is not left to our answer: one that is wrongly Number would
-    // else be excused, and one that wrongly accepts what the crate accepts too.
     let is_unknown = ours.answer == Answer::Refused(Refusal::UnknownType);
-    if is_unknown != has_unknown_type(line) {
-        return Err("UnknownType is for the types that are not in the list, and for all".into());
+    match (is_unknown, has_unknown_type(line)) {
+        (true, false) => return Err("we answer UnknownType, and no unknown type is there".into()),
+        (false, true) => return Err("the type is unknown, and we answer otherwise".into()),
+        _ => {}
     }
+    let is_number = ours.answer == Answer::Refused(Refusal::Number);
+    match (is_number, wrong_decimal(line)) {
+        (true, None) => return Err("we answer Number, and no wrong decimal is reached".into()),
+        (false, Some(text)) => {
+            return Err(format!(
+                "{text:?} is no plain decimal, and we do not answer Number"
+            ))
+        }
+        _ => {}
+    }
+
     if is_unknown {
         return outside(matches!(
             theirs,
             Answer::Other(_) | Answer::Refused(Refusal::Checksum { .. } | Refusal::Syntax)
         ));
     }
-
-    let wrong_decimal = Fields::of(line).and_then(|fields| fields.wrong_decimal());
-    if ours.answer == Answer::Refused(Refusal::Number) {
-        if wrong_decimal.is_none() {
-            return Err("we answer Number, and each decimal is plain".into());
-        }
+    if is_number {
         return outside(matches!(
             theirs,
             Answer::Rmc(_)
@@ -42,17 +50,6 @@ pub fn judge(line: &[u8], ours: &OursAnswer, theirs: &Answer) -> Result<Domain, 
                 | Answer::Refused(Refusal::Syntax | Refusal::SystemMismatch { .. })
         ));
     }
-    // The crate came past all decimals only if it found no other fault.
-    let is_read = matches!(
-        theirs,
-        Answer::Rmc(_) | Answer::Gsa(_) | Answer::Refused(Refusal::SystemMismatch { .. })
-    );
-    if let Some(text) = wrong_decimal.filter(|_| is_read) {
-        return Err(format!(
-            "{text:?} is no plain decimal, so that the answer is Number"
-        ));
-    }
-
     if ours.answer != *theirs {
         return Err("the answers differ".into());
     }

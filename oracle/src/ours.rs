@@ -35,7 +35,11 @@ impl Ours {
             .command()
             .stdin(Stdio::piped())
             .stdout(Stdio::piped())
-            .spawn()?;
+            .spawn()
+            .map_err(|error| {
+                let message = format!("{} does not start: {error}", self.program);
+                io::Error::new(error.kind(), message)
+            })?;
         let mut input = child.stdin.take().expect("its input is a pipe");
         let mut output = child.stdout.take().expect("its output is a pipe");
 

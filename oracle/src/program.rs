@@ -3,7 +3,7 @@
 use std::{
     env::{self, consts::ARCH},
     ffi::OsString,
-    fs,
+    fmt, fs,
     path::{Path, PathBuf},
     process::Command,
 };
@@ -64,6 +64,17 @@ impl Program {
     }
 }
 
+impl fmt::Display for Program {
+    fn fmt(&self, f: &mut fmt::Formatter) -> fmt::Result {
+        let words: Vec<_> = self
+            .words
+            .iter()
+            .map(|word| word.to_string_lossy())
+            .collect();
+        f.write_str(&words.join(" "))
+    }
+}
+
 /// The toolchain for this machine in the kit that `rt` belongs to.
 fn toolchain() -> Option<PathBuf> {
     let home = match env::var_os("RATTLE_HOME") {
@@ -80,8 +91,8 @@ fn home_of_rt() -> Option<PathBuf> {
     let rt = env::split_paths(&path)
         .map(|folder| folder.join("rt"))
         .find(|file| file.is_file())?;
-    let bin = fs::canonicalize(rt).ok()?;
-    Some(bin.parent()?.parent()?.to_path_buf())
+    let rt = fs::canonicalize(rt).ok()?;
+    Some(rt.parent()?.parent()?.to_path_buf())
 }
 
 /// As `rt` runs a program: by the kit's loader and C library, and by its

@@ -31,3 +31,28 @@ fn without(line: &[u8], start: usize, size: usize) -> impl Iterator<Item = Vec<u
     let repaired = repaired(&cut);
     [Some(cut), repaired].into_iter().flatten()
 }
+
+#[cfg(test)]
+mod tests {
+    use super::*;
+    use crate::{crate_answer, with_checksum};
+
+    #[test]
+    fn bytes_that_do_not_matter_go() {
+        let matters = |line: &[u8]| line.starts_with(b"$") && line.contains(&b'x');
+        let smallest = shrink(b"$GPTXT,abcxabc*00", |lines| {
+            Ok(lines.iter().position(|line| matters(line)))
+        });
+        assert_eq!(smallest.unwrap(), b"$x");
+    }
+
+    #[test]
+    fn a_right_checksum_is_kept() {
+        let matters = |line: &[u8]| crate_answer(line).number() == 0 && line.contains(&b'x');
+        let line = with_checksum("GPTXT,abcxabc");
+        let smallest = shrink(line.as_bytes(), |lines| {
+            Ok(lines.iter().position(|line| matters(line)))
+        });
+        assert_eq!(smallest.unwrap(), with_checksum("GPTXT,x").as_bytes());
+    }
+}

@@ -1,18 +1,25 @@
 //! Runs docs/DIFFERENCES.md: the tests read its tables and hold every row
 //! against the crate, so a row that is not true fails here.
 
-mod common;
 mod describe;
 mod document;
 
-use common::with_checksum;
 use describe::{describe, describe_refusal};
-use document::{all_rows, rows, section};
+use document::{all_rows, listed_types, section, Row, TYPES};
 use nmea::SentenceType;
-use oracle::{crate_answer, crate_gsa, crate_gsv, crate_rmc, Answer, Refusal};
+use oracle::{
+    crate_answer, crate_gsa, crate_gsv, crate_rmc, is_plain, with_checksum, Answer, Limits,
+    Refusal, KNOWN_TYPES,
+};
 
 const MORE_DECIMALS: &str = "Beside the decimal";
-const TYPES: &str = "Types that the crate knows and we do not";
+
+/// The rows of the table under a heading.
+fn rows(heading: &str) -> Vec<Row> {
+    let rows = document::rows(section(heading));
+    assert!(!rows.is_empty(), "no rows under {heading}");
+    rows
+}
 
 /// A place of a decimal: the document's heading for it, and the rest of the
 /// shortest body around it.
@@ -25,14 +32,6 @@ struct Place {
     beyond: &'static [Probe],
     /// Whether the crate drops what follows the number.
     drops_the_rest: bool,
-}
-
-#[derive(Clone, Copy)]
-enum Limits {
-    /// At most 7 digits in all.
-    Short,
-    /// 1 to 3 digits before the point, at most 9 after.
-    Long,
 }
 
 /// A class of texts that are no plain decimal within limits, and one such text.
@@ -176,21 +175,6 @@ impl Place {
     }
 }
 
-/// A plain decimal within its limits, by document 01.
-fn is_plain(text: &str, limits: Limits) -> bool {
-    let (whole, decimals) = match text.split_once('.') {
-        Some((whole, decimals)) => (whole, Some(decimals)),
-        None => (text, None),
-    };
-    let digits = |part: &str| !part.is_empty() && part.bytes().all(|byte| byte.is_ascii_digit());
-    let count = decimals.map_or(0, str::len);
-    let within = match limits {
-        Limits::Short => whole.len() + count <= 7,
-        Limits::Long => whole.len() <= 3 && count <= 9,
-    };
-    digits(whole) && decimals.is_none_or(digits) && within
-}
-
 fn number() -> String {
     describe_refusal(&Refusal::Number)
 }
@@ -304,23 +288,16 @@ fn no_row_is_left_out() {
 
 /// The crate's types of three letters that are none of document 01's thirty.
 fn unknown_types() -> Vec<&'static str> {
-    let thirty = "AAM ALM APA BOD BWC BWW DBK DBS DPT GBS GGA GLL GNS GSA GST GSV HDT MDA MTW MWV \
-                  RMC RMZ TTM TXT VHW VTG WNC ZDA ZFO ZTG";
     SentenceType::TYPES
         .iter()
         .map(SentenceType::as_str)
-        .filter(|name| name.len() == 3 && !thirty.split_whitespace().any(|known| known == *name))
+        .filter(|name| name.len() == 3 && !KNOWN_TYPES.contains(name))
         .collect()
 }
 
 #[test]
 fn the_list_of_types() {
-    let listed: Vec<&str> = section(TYPES)
-        .skip_while(|line| !line.starts_with("```"))
-        .skip(1)
-        .take_while(|line| !line.starts_with("```"))
-        .flat_map(str::split_whitespace)
-        .collect();
+    let listed = listed_types();
     assert_eq!(listed, unknown_types());
 
     for name in listed {

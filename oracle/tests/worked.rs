@@ -2,12 +2,9 @@
 //! in the comments of the crate's gsv.rs, gsa.rs and rmc.rs. Each expectation
 //! is written from the document's words; the crate must answer the same.
 
-mod common;
-
-use common::with_checksum;
 use oracle::{
-    crate_answer, crate_gsa, crate_gsv, crate_rmc, Answer, Date, Entry, Gsa, Gsv, Refusal, Rmc,
-    System, Time,
+    crate_answer, crate_gsa, crate_gsv, crate_rmc, with_checksum, Answer, Date, Entry, Gsa, Gsv,
+    Refusal, Rmc, System, Time,
 };
 
 /// The three GSV lines of one group, from the comment in gsv.rs.

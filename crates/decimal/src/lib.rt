@@ -220,5 +220,9 @@ pub fn bits_f32(x: f32) -> u32
 pub fn bits_f64(x: f64) -> u64
     ensures { λ r. ⌜ r ≡ bitsOf binary64 0x7FF8000000000000 x ⌝ }
 {
-    if x == x { f64::to_bits(x) } else { 0x7FF8000000000000 }
+    if x == x {
+        f64::to_bits(x)
+    } else {
+        0x7FF8000000000000
+    }
 }

@@ -44,13 +44,7 @@ fn place(s: &[u8], lat: Wanted, lon: Wanted) {
 fn no_place(s: &[u8], why: u8) {
     let found: u8 = match fields::parse_lat_lon(s, 0) {
         PlaceAt::No => 0,
-        PlaceAt::Absent(p) => {
-            if p == 3 {
-                1
-            } else {
-                9
-            }
-        }
+        PlaceAt::Absent(p) => { if p == 3 { 1 } else { 9 } }
         PlaceAt::Is(_, _) => 9,
         PlaceAt::Number => 2,
     };
@@ -81,13 +75,7 @@ fn variation(s: &[u8], whole: i32, decimals: u32, bits: u32) {
 fn no_variation(s: &[u8], why: u8) {
     let found: u8 = match fields::parse_magnetic_variation(s, 0) {
         VariationAt::No => 0,
-        VariationAt::Absent(p) => {
-            if p == 1 {
-                1
-            } else {
-                9
-            }
-        }
+        VariationAt::Absent(p) => { if p == 1 { 1 } else { 9 } }
         VariationAt::Is(_, _) => 9,
         VariationAt::Number => 2,
     };

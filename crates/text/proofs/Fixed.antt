@@ -199,7 +199,7 @@ module _ (s : List ℕ) (at : ℕ) where
   -- the number that three units write
   three-number : {x y z : ℕ} → x ≡ leadUnit (getD s at 0) → y ≡ unit (getD s (at + 1) 0) → z ≡ unit (getD s (at + 2) 0)
       → (leadUnit (getD s at 0) * 10 + unit (getD s (at + 1) 0)) * 10 + unit (getD s (at + 2) 0) ≡ (x * 10 + y) * 10 + z
-  three-number {x} {y} {z} p q r = 
+  three-number {x} {y} {z} p q r =
       ap (λ (u : ℕ). (u * 10 + unit (getD s (at + 1) 0)) * 10 + unit (getD s (at + 2) 0)) (sym p)
       ∙ ap (λ (u : ℕ). (x * 10 + u) * 10 + unit (getD s (at + 2) 0)) (sym q)
       ∙ ap (λ (u : ℕ). (x * 10 + y) * 10 + u) (sym r)

@@ -9,7 +9,6 @@ use lib.Dec.{eqb}
 
 infixl 40 _>>=_
 infixl 40 _>>_
-
 -- the refusals of 01 that a reader can end in at once, besides Syntax: 5, 9 and 11
 pub data Fault : Type 0 where
   UnknownType : Fault

@@ -1,5 +1,9 @@
-//! Compares our proved reader with the crate nmea 0.8.0:
+//! Compares our proved reader with the crate nmea 0.8.0, on the worked lines,
+//! the logs and N lines made from the seed S:
 //! `compare [--lines N] [--seed S]`.
+//!
+//! The variable NMEA_ANSWERS holds another command line than that of
+//! `target/bin/answers`, and NMEA_CORPUS another folder of logs.
 
 use std::{env, process::ExitCode};
 

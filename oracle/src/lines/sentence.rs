@@ -3,7 +3,7 @@
 use nmea::SentenceType;
 
 use super::{gsa, gsv, random::Random, rmc, texts::digits};
-use crate::{checksum, fields::LONGEST, KNOWN_TYPES};
+use crate::{checksum, known::LONGEST, KNOWN_TYPES};
 
 /// Talkers that name a system somewhere, and some that do not.
 const TALKERS: [&str; 16] = [

@@ -113,6 +113,7 @@ pub(super) fn fixed_width(random: &mut Random, bound: usize, width: usize) -> St
         3 => format!(" {shorter}"),
         4 => format!("{shorter}+"),
         5 => shorter,
+        6 => format!("{bound:0width$}"),
         _ => digits(random, width),
     }
 }

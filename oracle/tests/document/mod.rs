@@ -1,6 +1,9 @@
-//! Reads the tables of docs/DIFFERENCES.md.
+//! Reads docs/DIFFERENCES.md.
 
 const DOCUMENT: &str = include_str!("../../../docs/DIFFERENCES.md");
+
+/// The heading over the types that only the crate knows.
+pub const TYPES: &str = "Types that the crate knows and we do not";
 
 /// A row of one of the document's tables.
 pub struct Row {
@@ -25,7 +28,8 @@ pub fn section(heading: &str) -> impl Iterator<Item = &'static str> + '_ {
         .take_while(move |line| title(line).is_none())
 }
 
-fn table_rows(lines: impl Iterator<Item = &'static str>) -> Vec<Row> {
+/// The rows of the tables in some lines.
+pub fn rows(lines: impl Iterator<Item = &'static str>) -> Vec<Row> {
     lines
         .filter(|line| line.starts_with('|'))
         .map(|line| {
@@ -52,12 +56,15 @@ fn table_rows(lines: impl Iterator<Item = &'static str>) -> Vec<Row> {
 
 /// The rows of all tables.
 pub fn all_rows() -> Vec<Row> {
-    table_rows(DOCUMENT.lines())
+    rows(DOCUMENT.lines())
 }
 
-/// The rows of the table under a heading.
-pub fn rows(heading: &str) -> Vec<Row> {
-    let rows = table_rows(section(heading));
-    assert!(!rows.is_empty(), "no rows under {heading}");
-    rows
+/// The list of the types that only the crate knows.
+pub fn listed_types() -> Vec<&'static str> {
+    section(TYPES)
+        .skip_while(|line| !line.starts_with("```"))
+        .skip(1)
+        .take_while(|line| !line.starts_with("```"))
+        .flat_map(str::split_whitespace)
+        .collect()
 }

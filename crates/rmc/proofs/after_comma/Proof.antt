@@ -31,13 +31,13 @@ enum-known-b c = search needs
 
 returns-2 : tie.Need-returns-2
 unfolding afterComma ifComma
-returns-2 c = 
+returns-2 c =
     let comma = opt-some _ (c .before .before .before .before .before .before .byte .ensures .0) (ap next (c .before .before .before .before .next .given .1)) in
     (go _ comma refl (opt-none _ (c .before .before .one-among .ensures .0) (ap lettered (c .enum-told2 .given .1))), refl, refl)
 
 returns-3 : tie.Need-returns-3
 unfolding afterComma ifComma
-returns-3 c = 
+returns-3 c =
     let comma = opt-some _ (c .before .before .before .before .before .before .before .byte .ensures .0) (ap next (c .before .before .before .before .before .next .given .1)) in
     (go _ comma refl (opt-some _ (c .before .before .before .one-among .ensures .0) (ap lettered (c .before .b .given .1))), refl, refl)
 

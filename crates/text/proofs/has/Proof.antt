@@ -23,7 +23,7 @@ shared-slice-read-if1 : tie.Need-shared-slice-read-if1 Inv-loop μ-loop
 shared-slice-read-if1 c = search needs
 
 returns : tie.Need-returns Inv-loop μ-loop
-returns c = 
+returns c =
     let k = c .before .before .before in
     (sym (k .loop .inv .1 ∙ among-here (k .before .args .b) _ _ (c .before .before .loop-test .taken) (c .if1 .taken)), refl)
 
@@ -34,7 +34,7 @@ loop-less : tie.Need-loop-less Inv-loop μ-loop
 loop-less c = search needs
 
 loop-again : tie.Need-loop-again Inv-loop μ-loop
-loop-again c = 
+loop-again c =
     let k = c .before .before .before in
     (omega arith, k .loop .inv .1 ∙ among-later (k .before .args .b) _ _ (c .before .before .loop-test .taken) (c .if1 .left))
 

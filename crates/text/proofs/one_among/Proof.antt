@@ -20,7 +20,7 @@ add-t10 : tie.Need-add-t10
 add-t10 c = search needs
 
 returns-2 : tie.Need-returns-2
-returns-2 c = 
+returns-2 c =
     (a-read (among-got _ _ _ (c .before .before .before .if1 .left) (sym (c .before .has .ensures .0) ∙ c .if2 .taken)) (omega arith) (omega arith), refl, refl)
 
 returns-3 : tie.Need-returns-3

@@ -19,7 +19,7 @@ degrees-of-requires : tie.Need-degrees-of-requires
 degrees-of-requires c κs = search needs
 
 returns : tie.Need-returns
-returns c = 
+returns c =
     let e : toZ w64 (ofZ w64 (c .before .signed-of .result)) ≡ c .before .signed-of .result = search needs in
     rw (e, c .before .signed-of .ensures, c .degrees-of .ensures)
 

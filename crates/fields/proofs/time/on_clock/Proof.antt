@@ -35,7 +35,7 @@ div-second : tie.Need-div-second
 div-second c = rw (one c) (ten-pos (c .before .before .before .before .args .k))
 
 returns-3 : tie.Need-returns-3
-returns-3 c = 
+returns-3 c =
     let a = c .before .before .before .before .before .args in
     (no-read (late-second (a .hour) (a .minute) (a .size) (a .k) _ (rw (one (c .before)) at (c .if3 .taken))), refl)
 
@@ -49,15 +49,14 @@ pow10-requires-2 : tie.Need-pow10-requires-2
 pow10-requires-2 c κs = search needs
 
 mul-nanosecond : tie.Need-mul-nanosecond
-mul-nanosecond c = 
+mul-nanosecond c =
     let a = c .before .before .before .before .before .before .args in
     omega (arith, nanoseconds c, nanoseconds-lt (a .size) (a .k) (omega arith))
 
 returns-4 : tie.Need-returns-4
-returns-4 c = 
+returns-4 c =
     let k = c .before .before .before in
-    let a = k .before .before .before .before .args in
-    (
+    let a = k .before .before .before .before .args in (
       bad-read
           (bad-time (a .hour) (a .minute) (a .size) (a .k) _ (k .before .before .if1 .left) (k .before .if2 .left) (rw (one k) at (c .before .before .if3 .left)) (rw (nanoseconds (c .before)) at (c .if4 .taken))),
       refl,
@@ -70,10 +69,9 @@ cast-t14 : tie.Need-cast-t14
 cast-t14 c = search needs
 
 returns-5 : tie.Need-returns-5
-returns-5 c = 
+returns-5 c =
     let k = c .before .before .before in
-    let a = k .before .before .before .before .args in
-    (
+    let a = k .before .before .before .before .args in (
       rw (nanoseconds (c .before), one k)
           (a-read (in-time (a .hour) (a .minute) (a .size) (a .k) _ (k .before .before .if1 .left) (k .before .if2 .left) (rw (one k) at (c .before .before .if3 .left)) (rw (nanoseconds (c .before)) at (c .if4 .left))) (omega arith) (omega arith)),
       refl,

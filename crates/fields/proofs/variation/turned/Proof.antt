@@ -9,13 +9,13 @@ use Rattle.fields.proofs.variation.turned.Statement.{statement}
 use Rattle.fields.proofs.variation.turned.Tie as tie
 
 sub-t5 : tie.Need-sub-t5
-sub-t5 c = 
+sub-t5 c =
     let w = c .before .before .before .args .d .whole in
     let e : toZ w32 (ofZ w32 w) ≡ w = search needs in
     rw e (fits32 w (omega arith))
 
 returns : tie.Need-returns
-returns c = 
+returns c =
     let w = c .before .before .before .before .args .d .whole in
     let e : toZ w32 (ofZ w32 w) ≡ w = search needs in
     rw (e, c .before .before .before .if1 .taken, back32 w (omega arith))

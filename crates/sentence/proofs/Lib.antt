@@ -1,0 +1,4 @@
+pub mod Told
+pub mod Satellites
+pub mod Beside
+pub mod Types

@@ -1,0 +1,46 @@
+//! Runs docs/DIFFERENCES.md against our proved reader: what each row says of
+//! our answer.
+
+mod document;
+
+use std::error::Error;
+
+use document::{all_rows, listed_types};
+use oracle::{answer_of, with_checksum, Ours};
+
+/// The classes of our answers to some lines.
+fn classes(lines: &[Vec<u8>]) -> Result<Vec<String>, Box<dyn Error>> {
+    let mut classes = vec![];
+    for words in Ours::find()?.answers(lines)? {
+        classes.push(answer_of(&words)?.answer.class());
+    }
+    Ok(classes)
+}
+
+#[test]
+fn every_row() -> Result<(), Box<dyn Error>> {
+    let rows = all_rows();
+    assert!(!rows.is_empty());
+    let lines: Vec<Vec<u8>> = rows.iter().map(|row| row.sentence.into()).collect();
+    for (row, class) in rows.iter().zip(classes(&lines)?) {
+        assert_eq!(
+            class, row.ours,
+            "{}: {}, `{}`, where the crate {}",
+            row.sentence, row.class, row.text, row.theirs
+        );
+    }
+    Ok(())
+}
+
+#[test]
+fn every_type_that_only_the_crate_knows() -> Result<(), Box<dyn Error>> {
+    let lines: Vec<Vec<u8>> = listed_types()
+        .iter()
+        .map(|name| with_checksum(&format!("GN{name},")).into_bytes())
+        .collect();
+    assert!(!lines.is_empty());
+    for (line, class) in lines.iter().zip(classes(&lines)?) {
+        assert_eq!(class, "5 UnknownType", "{}", line.escape_ascii());
+    }
+    Ok(())
+}

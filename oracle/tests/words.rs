@@ -1,0 +1,163 @@
+//! The comparison itself: words written by hand from docs/ABI.md stand, and
+//! no word of them can be changed without being found.
+
+use oracle::{answer_of, crate_answer, judge, with_checksum, Domain, Words};
+
+const RMC: &str = "$GNRMC,101500.25,A,5130.5,N,00006.0,W,4.5,270.0,290224,,,A*5F";
+const WEST: &str = "$GPRMC,,A,,,,,,,,0,W*41";
+const GSA: &str = "$GPGSA,A,3,,,,,,16,18,,22,24,,,3.6,2.1,2.2*3C";
+const NO_FIX: &str = "$GPGSA,A,1,,,,*32";
+const GSV: &str = "$GPGSV,3,3,11,22,42,067,42,24,14,311,43,27,05,244,00,,,,*4D";
+
+/// What comes of our words for a line.
+fn verdict(line: &[u8], words: &Words) -> Result<Domain, String> {
+    judge(line, &answer_of(words)?, &crate_answer(line))
+}
+
+/// The first words of an answer; the others are 0.
+fn words(first: &[u64]) -> Words {
+    let mut words = [0; 40];
+    words[..first.len()].copy_from_slice(first);
+    words
+}
+
+fn letter(letter: char) -> u64 {
+    letter.into()
+}
+
+fn f32_bits(float: f32) -> u64 {
+    float.to_bits().into()
+}
+
+/// Holds the words to be the line's answer, and no others to be.
+fn only(line: impl AsRef<[u8]>, first: &[u64], domain: Domain) {
+    let line = line.as_ref();
+    let right = words(first);
+    assert_eq!(verdict(line, &right), Ok(domain), "{}", line.escape_ascii());
+    for index in 0..right.len() {
+        let word = right[index];
+        let others = [
+            0,
+            1,
+            word + 1,
+            word ^ 1,
+            word ^ 1 << 31,
+            word ^ 1 << 63,
+            !word,
+        ];
+        for other in others.into_iter().filter(|&other| other != word) {
+            let mut wrong = right;
+            wrong[index] = other;
+            assert!(
+                verdict(line, &wrong).is_err(),
+                "{} with word {index} as {other}",
+                line.escape_ascii()
+            );
+        }
+    }
+}
+
+#[test]
+fn rmc() {
+    let latitude = 51. + 30.5 / 60.;
+    let longitude: f64 = -(6. / 60.);
+    let first: [&[u64]; 8] = [
+        &[1, 1, 10, 15, 0, 250_000_000, letter('A')],
+        &[1, 0, 3_090_500_000_000, letter('N'), f64::to_bits(latitude)],
+        &[1, 6_000_000_000, letter('W'), longitude.to_bits()],
+        &[1, 0, 45, 1, f32_bits(4.5)],
+        &[1, 0, 2700, 1, f32_bits(270.)],
+        &[1, 2024, 2, 29],
+        &[0, 0, 0, 0, 0],
+        &[letter('A'), 0],
+    ];
+    only(RMC, &first.concat(), Domain::Inside);
+}
+
+#[test]
+fn minus_zero_is_a_float_only() {
+    let mut first = words(&[1]);
+    first[6] = letter('A');
+    first[30..35].copy_from_slice(&[1, 0, 0, 0, f32_bits(-0.)]);
+    only(WEST, &first, Domain::Inside);
+}
+
+#[test]
+fn gsa() {
+    let first: [&[u64]; 5] = [
+        &[2, letter('G'), letter('P'), letter('A'), letter('3'), 1],
+        &[1, 0, 36, 1, f32_bits(3.6)],
+        &[0, 21, 1, f32_bits(2.1)],
+        &[0, 22, 1, f32_bits(2.2)],
+        &[4, 16, 18, 22, 24],
+    ];
+    only(GSA, &first.concat(), Domain::Inside);
+    let first = [2, letter('G'), letter('P'), letter('A'), letter('1'), 1];
+    only(NO_FIX, &first, Domain::Inside);
+}
+
+#[test]
+fn gsv() {
+    let first: [&[u64]; 4] = [
+        &[3, letter('G'), letter('P'), 1, 3, 3, 11],
+        &[1, 22, 1, 42, 1, 67, 1, 42],
+        &[1, 24, 1, 14, 1, 311, 1, 43],
+        &[1, 27, 1, 5, 1, 244, 1, 0],
+    ];
+    only(GSV, &first.concat(), Domain::Inside);
+}
+
+#[test]
+fn other() {
+    let first = [4, letter('T'), letter('X'), letter('T')];
+    only("$GPTXT,i*0A", &first, Domain::Inside);
+}
+
+#[test]
+fn refusals() {
+    only([0xC3, 0x28], &[5, 1], Domain::Inside);
+    only([0xC3, 0xA9], &[5, 2], Domain::Inside);
+    only([b'x'; 103], &[5, 3, 1, 103], Domain::Inside);
+    only("", &[5, 4], Domain::Inside);
+    only("$GNHDG,*6E", &[5, 5], Domain::Outside);
+    only("$GPGSA,A,1,,,,*33", &[5, 6, 2, 50, 51], Domain::Inside);
+    only(
+        "$GNGSV,*67",
+        &[5, 7, 2, letter('G'), letter('N')],
+        Domain::Inside,
+    );
+    only("$GPGSA,A,1,,,,2*00", &[5, 8, 2, 1, 2], Domain::Inside);
+    only("$GNRMC,,A,,,,,-1,,,,*24", &[5, 9], Domain::Outside);
+}
+
+#[test]
+fn number_is_answered_exactly_where_a_wrong_decimal_is_reached() {
+    let number = words(&[5, 9]);
+    let syntax = words(&[5, 4]);
+    let due = [
+        // The crate accepts the decimal, or has a parsing error there.
+        "GNRMC,,A,,,,,1e1,,,,",
+        "GNRMC,,A,,,,,fast,,,,",
+        // Number stands before the ranges, and before what follows.
+        "GNRMC,99991x,A,,,,,,,,,",
+        "GNRMC,,A,,,,,1x",
+    ];
+    for body in due {
+        let line = with_checksum(body);
+        let line = line.as_bytes();
+        assert_eq!(verdict(line, &number), Ok(Domain::Outside), "{body}");
+        assert!(verdict(line, &syntax).is_err(), "{body}");
+    }
+    let not_due = [
+        // The status stands before the speed.
+        "GNRMC,,X,,,,,1x,,,,",
+        // A whole PDOP is an item, however long.
+        "GNGSA,A,1,12345678,1.0,1",
+    ];
+    for body in not_due {
+        let line = with_checksum(body);
+        let line = line.as_bytes();
+        assert_eq!(verdict(line, &syntax), Ok(Domain::Inside), "{body}");
+        assert!(verdict(line, &number).is_err(), "{body}");
+    }
+}

@@ -74,7 +74,7 @@ fn outside() {
     no_date(b"");
 }
 
-pub fn run() {
+pub(crate) fn run() {
     february();
     years();
     first_half();

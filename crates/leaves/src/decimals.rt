@@ -151,7 +151,7 @@ fn powers() {
     crate::told(decimal::pow10(4294967295) == 1000000000, b"4294967295");
 }
 
-pub fn run() {
+pub(crate) fn run() {
     shorts();
     not_shorts();
     not_plain();

@@ -8,7 +8,7 @@ mod times;
 mod utf8s;
 
 // Says of a case whether it came out as expected.
-pub fn told(ok: bool, case: &[u8]) {
+pub(crate) fn told(ok: bool, case: &[u8]) {
     if ok {
         io::write_all(1, b"ok ");
     } else {

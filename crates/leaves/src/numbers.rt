@@ -77,7 +77,7 @@ fn wholes() {
     no_number(b"", 255);
 }
 
-pub fn run() {
+pub(crate) fn run() {
     twos();
     threes();
     wholes();

@@ -140,7 +140,7 @@ fn not_variations() {
     no_variation(b"-14.2,E", 2);
 }
 
-pub fn run() {
+pub(crate) fn run() {
     positions();
     no_positions();
     variations();

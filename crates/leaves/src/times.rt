@@ -81,7 +81,7 @@ fn not_numbers() {
     not_number(b"101500.1234567890");
 }
 
-pub fn run() {
+pub(crate) fn run() {
     times();
     no_times();
     not_numbers();

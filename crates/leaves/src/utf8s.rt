@@ -10,7 +10,7 @@ fn long_and_cut() {
     crate::told(utf8::is_utf8(&s) == false, b"utf8 300 bytes that end in C3");
 }
 
-pub fn run() {
+pub(crate) fn run() {
     utf8(b"utf8 nothing", b"", true);
     utf8(b"utf8 C3 A9", b"\xC3\xA9", true);
     utf8(b"utf8 C3 28", b"\xC3\x28", false);

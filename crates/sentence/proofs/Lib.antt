@@ -2,3 +2,5 @@ pub mod Told
 pub mod Satellites
 pub mod Beside
 pub mod Types
+pub mod Worked
+pub mod OneByte

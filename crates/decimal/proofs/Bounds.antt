@@ -3,7 +3,7 @@
 use Prim.Native.Nat.{ℕ, _+_, _-_, _*_, _^_, _≤_, _<_}
 use native.Mathlib.Omega.{arith}
 use native.Mathlib.Nat.{mul-le-mul-right}
-use mathlib.Core.Path.{_≡_, refl, ap, sym, _∙_, subst}
+use mathlib.Core.Path.{_≡_, refl, ap, subst}
 use mathlib.Core.Bool.{Bool, true, false, cond, _&&_}
 use mathlib.Core.List.{List, [], _∷_}
 use mathlib.Core.Option.{Option, none, some}
@@ -11,7 +11,7 @@ use lib.ListN.{length}
 use lib.Dec.{leb, ltb, eqb}
 use borrow.Author.Tests.{leb-true, ltb-true}
 use Rattle.text.specs.Bytes.{byte}
-use Rattle.text.specs.Reader.{Parse, refuse, got, Number}
+use Rattle.text.specs.Reader.{got}
 use Rattle.text.specs.Number.{digits, afterDigits, valueFrom, onlyDigits}
 use Rattle.decimal.specs.Decimal.{Limits, Decimal, unsigned, text, past, fraction, fits, within, plain, orNumber, decimal}
 use Rattle.text.specs.Placed.{Reads}

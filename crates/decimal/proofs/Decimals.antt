@@ -1,18 +1,15 @@
 -- A decimal place, part by part.
-use Prim.Native.Nat.{ℕ, zero, suc, _+_, _-_, _*_, _^_, _≤_, _<_, min}
+use Prim.Native.Nat.{ℕ, _+_, _-_, _*_, _^_, _≤_, _<_, min}
 use native.Mathlib.Omega.{arith}
-use native.Mathlib.Numerals.{add-one}
-use native.Mathlib.Nat.{mul-assoc, mul-comm, mul-left-comm, mul-le-mul-right, mul-le-mul, pow-le-pow-right, one-mul}
-use lib.Pow.{pow-add}
+use native.Mathlib.Nat.{mul-assoc, mul-comm, mul-left-comm, mul-le-mul-right}
 use mathlib.Core.Path.{_≡_, refl, ap, sym, _∙_}
 use mathlib.Core.Bool.{Bool, true, false, cond, _&&_}
 use mathlib.Core.Logic.{_⊎_, inl, inr}
 use mathlib.Core.List.{List, [], _∷_}
 use mathlib.Core.Option.{Option, none, some}
 use lib.ListN.{length}
-use lib.Dec.{leb, ltb, eqb, lit<}
-use borrow.Author.Tests.{le-leb, lt-leb, lt-ltb, le-ltb, leb-true, leb-false, ne-eqb, eq-eqb, eqb-true, ltb-true, ltb-false}
-use Rattle.text.specs.Bytes.{byte}
+use lib.Dec.{leb, ltb, eqb}
+use borrow.Author.Tests.{le-leb, lt-ltb, leb-true, leb-false, ne-eqb, eqb-true, ltb-true, ltb-false}
 use Rattle.text.specs.Reader.{Parse, miss, refuse, got, char, Number}
 use Rattle.text.specs.Number.{isDigit, digits, afterDigits, valueFrom, onlyDigits}
 use Rattle.text.proofs.Fixed.{digit-top}

@@ -1,17 +1,16 @@
 -- One operation on two values that are not negative is one rounding of the exact result, by whichever fractions the operands are written. Assumes nothing.
 use mathlib.Core.Path.{_≡_, refl, sym, ap, _∙_, subst}
-use Prim.Native.Nat.{ℕ, zero, suc, _+_, _-_, _*_, _/_, _%_, _^_, _≤_, _<_, min}
-use native.Mathlib.Nat.{le-trans, mul-one, one-mul, mul-comm, mul-assoc, mul-left-comm, mul-right-comm, mul-pos, zero-mul, lt-irrefl, add-mul, mul-lt-mul-of-pos-right}
+use Prim.Native.Nat.{ℕ, zero, suc, _+_, _-_, _*_, _^_, _≤_, _<_, min}
+use native.Mathlib.Nat.{mul-one, mul-comm, mul-assoc, mul-left-comm, mul-pos, zero-mul, add-mul}
 use native.Mathlib.Omega.{arith}
 use mathlib.Core.Bool.{Bool, true, false, not, cond, true≢false}
-use lib.Dec.{T, leb, ltb, eqb, le→leb, eqb→eq, lit<}
+use lib.Dec.{T, ltb, eqb, le→leb, eqb→eq, lit<}
 use lib.IntN.{ℤ, pos}
-use lib.Ieee.{Float, nan, inf, fin, Format, binary32, binary64, prec, up, down, low, emax, odd, units, round, neg, sum, add, div, ofInt, inFloat, isNan}
-use lib.Ieee.Fits.{up-pos, down-pos, round-is}
+use lib.Ieee.{Float, nan, inf, fin, Format, prec, up, down, low, emax, odd, units, round, neg, sum, add, div, ofInt, inFloat, isNan}
+use lib.Ieee.Fits.{down-pos, round-is}
 use lib.Ieee.Exact.{HasValue}
 use lib.Ieee.Back.{round-whole}
 use lib.Ieee.Scale.{round-same}
-use lib.Arith.{digits-div, digits-mod}
 use lib.Ieee.Positive.{first-pos}
 use Rattle.decimal.proofs.Power.{ten-pos, parts, capped}
 

@@ -2,12 +2,12 @@
 -- Assumes nothing.
 use Prim.Native.Nat.{ℕ, _*_, _-_, _^_, _≤_, _<_}
 use native.Mathlib.Omega.{arith}
-use mathlib.Core.Path.{_≡_, refl, ap, sym, _∙_, subst}
-use mathlib.Core.Bool.{Bool, true, false, cond}
+use mathlib.Core.Path.{_≡_, refl, ap, sym, subst}
+use mathlib.Core.Bool.{Bool}
 use mathlib.Core.List.{List}
 use mathlib.Core.Option.{Option, none, some}
 use lib.IntN.{natAbs}
-use Rattle.text.specs.Reader.{Parse, miss, refuse, got, after, Reader, _>>=_, pure}
+use Rattle.text.specs.Reader.{Parse, miss, refuse, got, after, _>>=_, pure}
 use Rattle.text.specs.Placed.{Reads}
 use Rattle.text.proofs.Places.{took}
 use Rattle.decimal.specs.Decimal.{Limits, Decimal, decimal, short, long}

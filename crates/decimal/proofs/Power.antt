@@ -1,5 +1,5 @@
 -- Laws of 10 ^ k. Assumes nothing.
-use mathlib.Core.Path.{_≡_, refl, sym, ap, _∙_, subst}
+use mathlib.Core.Path.{_≡_, refl, sym, ap, _∙_}
 use Prim.Native.Nat.{ℕ, zero, suc, _+_, _-_, _*_, _^_, _≤_, _<_, min}
 use native.Mathlib.Nat.{pow-succ', pow-le-pow-right, one-le-pow, mul-assoc, mul-lt-mul-of-pos-right}
 use lib.Pow.{pow-add}

@@ -2,8 +2,8 @@
 use Prim.Native.Nat.{ℕ}
 use mathlib.Core.Path.{_≡_, ap, sym, _∙_}
 use mathlib.Core.List.{List}
-use mathlib.Core.Option.{Option, none, some}
-use Rattle.text.specs.Reader.{Reader, _>>=_, orMiss, Number, BadTime}
+use mathlib.Core.Option.{Option}
+use Rattle.text.specs.Reader.{Reader, _>>=_, orMiss, Number}
 use Rattle.text.specs.Placed.{Placed, unread, refused, upto, Reads}
 use Rattle.text.proofs.Places.{stop, fail, go, done, miss-none, miss-some}
 use Rattle.text.proofs.Steps.{stop-whole, go-whole, stop-next, go-next, stop-letter, go-letter, stop-miss, go-some}

@@ -6,7 +6,7 @@ use Rattle.text.specs.Bytes.{bytes}
 use Rattle.text.specs.Reader.{_>>=_, pure, opt, char}
 use Rattle.text.specs.Number.{number, numberFrom}
 use Rattle.text.specs.Value.{value, syntax, is}
-use Rattle.gsv.specs.Gsv.{Satellite, Gsv, gsv, entry, counted, cell, closing}
+use Rattle.gsv.specs.Gsv.{gsv, entry, counted, cell, closing}
 
 -- that entry and the ones after it are absent
 pub minus-five :

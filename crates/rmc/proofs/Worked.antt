@@ -1,7 +1,7 @@
 -- Worked data of RMC, by computation: the scope's example, the lone variation letter, an unknown mode letter, and Number
 -- before what follows. Assumes nothing.
 use mathlib.Core.Path.{_≡_, refl}
-use mathlib.Core.Option.{none, some}
+use mathlib.Core.Option.{none}
 use Rattle.text.specs.Bytes.{byte, bytes}
 use Rattle.text.specs.Reader.{_>>=_, pure, opt, alt, orMiss, char, oneOf, among, letterOf, Number}
 use Rattle.text.specs.Number.{fixed}
@@ -12,7 +12,7 @@ use Rattle.fields.specs.Time.{hms, clock, timed}
 use Rattle.fields.specs.Date.{date}
 use Rattle.fields.specs.Position.{side, latitude, longitude, doLatLon, commas, latLon}
 use Rattle.fields.specs.Variation.{doVariation, variation}
-use Rattle.rmc.specs.Rmc.{Rmc, Fix, Motion, Letters, Ending, withComma, ifComma, afterComma, fix, motion, letters, ending, rmc}
+use Rattle.rmc.specs.Rmc.{Motion, withComma, ifComma, afterComma, fix, motion, letters, ending, rmc}
 
 abbrev nothing : Motion
 nothing = record { speed = none; course = none; date = none }

@@ -1,7 +1,6 @@
 -- An answer with no satellites beside it. Assumes nothing.
-use Prim.Native.Nat.{ℕ}
-use mathlib.Core.Path.{_≡_, refl, ap, sym, subst}
-use mathlib.Core.List.{List, []}
+use mathlib.Core.Path.{_≡_, ap, sym, subst}
+use mathlib.Core.List.{[]}
 use lib.ListN.{length}
 use Rattle.gsa.specs.Answer.{row}
 use Rattle.sentence.specs.Sentence.{Answer}

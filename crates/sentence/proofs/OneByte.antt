@@ -5,7 +5,7 @@ use mathlib.Core.List.{List}
 use lib.ListN.{length, getD, set}
 use Rattle.text.specs.Bytes.{byte}
 use Rattle.frame.specs.Refused.{Refused}
-use Rattle.frame.specs.Frame.{Parts, Outcome, accepted, frame, dataFrom}
+use Rattle.frame.specs.Frame.{Parts, accepted, frame, dataFrom}
 use Rattle.frame.proofs.OneByte.{one-byte-changed}
 use Rattle.sentence.specs.Sentence.{Answer, isRefused, framedBy, dispatch, answer}
 

@@ -1,23 +1,16 @@
 -- The satellites beside a GSA answer: a record has those that the data has, and a refusal none. Assumes nothing.
 use Prim.Native.Nat.{ℕ}
-use mathlib.Core.Path.{_≡_, refl, ap, sym, _∙_, subst}
-use mathlib.Core.List.{List, []}
-use mathlib.Core.Option.{Option, none, some}
+use mathlib.Core.Path.{_≡_, ap, sym, _∙_, subst}
+use mathlib.Core.List.{List}
 use lib.ListN.{length, take}
 use Rattle.text.specs.Value.{Value, is}
-use Rattle.frame.specs.Answer.{talkerBytes}
-use Rattle.frame.specs.declared.refusal.Talker.{Talker}
-use Rattle.gsa.specs.System.{Settled, settle, named}
 use Rattle.gsa.specs.Gsa.{Gsa}
-use Rattle.gsa.specs.Answer.{Answers, said, row, gsaOf as gsaData, system, settled, satellitesOf as beside-data}
+use Rattle.gsa.specs.Answer.{Answers, said, row, gsaOf as gsaData, satellitesOf as beside-data}
 use Rattle.gsa.specs.declared.GsaRead.{GsaRead}
-use Rattle.gsa.specs.declared.GsaAnswer.{GsaAnswer}
 use Rattle.gsa.specs.declared.GsaAnswer.the-variants.{Is as AGsa}
 use Rattle.gsa.specs.declared.GsaHead.{GsaHead}
-use Rattle.gsa.specs.declared.System.{System}
-use Rattle.gsa.specs.declared.Settled.{Settled as SettledCode}
-use Rattle.sentence.specs.Sentence.{Answer, isGsa, settledGsa, withSystem}
-use Rattle.sentence.specs.Answer.{gsaSentence, gsaFound, Beside, SaysGsa, recordOf, Says, asRecord}
+use Rattle.sentence.specs.Sentence.{Answer, isGsa}
+use Rattle.sentence.specs.Answer.{gsaSentence, gsaFound, SaysGsa, recordOf, Says, asRecord}
 use Rattle.sentence.specs.declared.GsaRecord.{GsaRecord}
 use Rattle.sentence.specs.declared.GsaFound.{GsaFound}
 use Rattle.sentence.specs.declared.GsaFound.the-variants.{Is as GsaIs, Refused as GsaRefused}

@@ -1,17 +1,16 @@
 -- How an answer follows from those of framing and of the readers of data: each map takes the code's answer to what it says, and
 -- what it says is what the definition has there. Assumes nothing.
 use Prim.Native.Nat.{ℕ, _≤_}
-use mathlib.Core.Path.{_≡_, ap, sym, _∙_, subst}
+use mathlib.Core.Path.{_≡_, ap, sym, _∙_}
 use mathlib.Core.Bool.{Bool, true, false, cond}
 use mathlib.Core.List.{List, []}
-use lib.Dec.{leb}
 use lib.ListN.{length}
 use lib.Seq.{slice}
 use borrow.Author.Tests.{le-leb}
 use Rattle.text.specs.Value.{Value}
 use Rattle.frame.specs.Refused.{wrongHeader}
 use Rattle.frame.specs.Types.{alike}
-use Rattle.frame.specs.Frame.{Parts, Outcome, accepted, frame}
+use Rattle.frame.specs.Frame.{Parts, frame}
 use Rattle.frame.specs.Answer.{refused, parts, framed, dataOf}
 use Rattle.frame.specs.declared.refusal.Refusal.{Refusal}
 use Rattle.frame.specs.declared.sentence.Sentence.{Sentence}

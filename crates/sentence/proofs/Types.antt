@@ -1,5 +1,4 @@
 -- The dispatch, type by type: the first that is the sentence's own decides. Assumes nothing.
-use Prim.Native.Nat.{ℕ}
 use mathlib.Core.Path.{_≡_, ap, sym, _∙_}
 use mathlib.Core.Bool.{Bool, true, false, cond}
 use Rattle.text.specs.Bytes.{bytes}

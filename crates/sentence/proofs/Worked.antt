@@ -2,11 +2,11 @@
 use Prim.Native.Nat.{ℕ}
 use mathlib.Core.Path.{_≡_, refl}
 use mathlib.Core.Bool.{true, false}
-use mathlib.Core.List.{List, [], _∷_, _++_}
+use mathlib.Core.List.{List, [], _∷_}
 use mathlib.Core.Option.{none, some}
 use lib.ListN.{replicate}
 use lib.IntN.{pos, negℤ}
-use lib.Ieee.{binary32, binary64, round}
+use lib.Ieee.{binary64, round}
 use Rattle.utf8.specs.Utf8.{follow, step, after, ascii}
 use Rattle.text.specs.Bytes.{byte, bytes}
 use Rattle.text.specs.Reader.{_>>=_, pure, opt, alt, orMiss, char, oneOf, among, letterOf, until}

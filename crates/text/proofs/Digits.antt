@@ -1,15 +1,14 @@
 -- What a number's reading does at a digit and where digits end.
-use Prim.Native.Nat.{ℕ, suc, _+_, _-_, _*_, _≤_, _<_}
+use Prim.Native.Nat.{ℕ, _+_, _-_, _*_, _≤_, _<_}
 use native.Mathlib.Omega.{arith}
-use mathlib.Core.Path.{_≡_, refl, ap}
-use mathlib.Core.Bool.{Bool, true, false, cond}
+use mathlib.Core.Path.{_≡_}
+use mathlib.Core.Bool.{true, false}
 use mathlib.Core.List.{List, [], _∷_}
 use lib.ListN.{length, drop, getD}
-use lib.Dec.{leb, ltb}
 use borrow.Author.Tests.{le-leb, lt-leb, lt-ltb}
-use Rattle.text.specs.Reader.{Parse, miss, got}
+use Rattle.text.specs.Reader.{miss, got}
 use Rattle.text.proofs.Places.{here, ended}
-use Rattle.text.specs.Number.{isDigit, digits, afterDigits, valueFrom, numberFrom, number}
+use Rattle.text.specs.Number.{isDigit, digits, valueFrom, numberFrom, number}
 
 pub digit-yes : (b : ℕ) → 48 ≤ b → b ≤ 57 → isDigit b ≡ true
 digit-yes b h k = simp (le-leb _ _ h, le-leb _ _ k)

@@ -1,17 +1,16 @@
 -- Numbers of two and three bytes, byte by byte.
 use Prim.Native.Nat.{ℕ, _+_, _-_, _*_, _≤_, _<_}
 use native.Mathlib.Omega.{arith}
-use native.Mathlib.Numerals.{add-one}
 use mathlib.Core.Path.{_≡_, refl, ap, sym, _∙_}
 use mathlib.Core.Bool.{Bool, true, false, cond, _&&_}
 use mathlib.Core.List.{List, [], _∷_, _++_}
 use mathlib.Core.Option.{Option, none, some}
 use lib.ListN.{length, take, drop, getD, length-drop}
 use lib.Dec.{leb, ltb, eqb}
-use borrow.Author.Tests.{le-leb, lt-leb, lt-ltb, leb-true, ne-eqb, eq-eqb}
+use borrow.Author.Tests.{le-leb, lt-leb, leb-true, ne-eqb}
 use Rattle.text.specs.Reader.{Parse, miss, got}
 use Rattle.text.specs.Number.{isDigit, digits, afterDigits, valueFrom, fixed, two, three, unsigned, upTo, written}
-use Rattle.text.proofs.Places.{here, ended}
+use Rattle.text.proofs.Places.{here}
 use Rattle.text.specs.Units.{unit, leadUnit}
 
 pub digit-top : (b : ℕ) → isDigit b ≡ true → b ≤ 57

@@ -8,8 +8,8 @@ use mathlib.Core.List.{List, [], _∷_}
 use mathlib.Core.Option.{Option, none, some}
 use lib.ListN.{length, drop, getD, length-drop, drop-of-length-le}
 use lib.Seq.{drop-cons}
-use Rattle.text.specs.Reader.{Fault, Parse, miss, refuse, got, Reader, _>>=_, pure, opt, alt, orMiss}
-use Rattle.text.specs.Placed.{Placed, unread, refused, upto, placed, left, Reads}
+use Rattle.text.specs.Reader.{Fault, miss, refuse, got, Reader, _>>=_, pure, opt, alt, orMiss}
+use Rattle.text.specs.Placed.{Placed, unread, refused, upto, placed, Reads}
 
 -- the text at a place within it begins with the byte there
 pub here : (s : List ℕ) (i : ℕ) → i < length s → drop i s ≡ getD s i 0 ∷ drop (i + 1) s

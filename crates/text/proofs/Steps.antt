@@ -4,7 +4,7 @@ use mathlib.Core.Path.{_≡_, ap, refl}
 use mathlib.Core.List.{List}
 use mathlib.Core.Option.{Option, none, some}
 use Rattle.text.specs.Reader.{Reader, _>>=_, orMiss}
-use Rattle.text.specs.Placed.{Placed, unread, upto, Reads}
+use Rattle.text.specs.Placed.{Placed, unread, Reads}
 use Rattle.text.specs.Answer.{whole, next, lettered, held, field}
 use Rattle.text.proofs.Places.{stop, go, done, miss-none, miss-some}
 use Rattle.text.specs.declared.Whole.{Whole}

@@ -1,12 +1,9 @@
-use Prim.Native.Nat.{ℕ, _+_, _-_, _*_, _^_, _≤_, _<_}
+use Prim.Native.Nat.{_-_}
 use native.Mathlib.Omega.{arith}
-use mathlib.Core.Path.{_≡_, refl, ap, sym, _∙_}
-use mathlib.Core.Logic.{_⊎_, inl, inr}
+use mathlib.Core.Path.{refl, ap, sym, _∙_}
 use denote.Ref.{now}
-use lib.ListN.{length, drop}
-use Rattle.text.specs.Reader.{char, got}
+use lib.ListN.{drop}
 use Rattle.text.specs.Answer.{next}
-use Rattle.text.specs.Number.{digits}
 use Rattle.text.proofs.Places.{a-read, bad-read, took, missed, barred}
 use Rattle.decimal.specs.Decimal.{limits}
 use Rattle.decimal.specs.Answer.{ran}

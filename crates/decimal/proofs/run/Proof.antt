@@ -1,11 +1,11 @@
-use Prim.Native.Nat.{ℕ, _+_, _-_, _*_, _^_, _≤_, _<_, max}
+use Prim.Native.Nat.{_+_, _-_, _*_, _^_, _≤_, _<_, max}
 use native.Mathlib.Omega.{arith}
-use mathlib.Core.Path.{_≡_, refl, ap, _∙_}
+use mathlib.Core.Path.{_≡_, refl, _∙_}
 use denote.Ref.{now}
 use lib.ListN.{length, drop}
 use borrow.Author.Needs.{needs}
 use Rattle.decimal.specs.Run.{run}
-use Rattle.text.proofs.Places.{a-read, no-read, bad-read}
+use Rattle.text.proofs.Places.{a-read, bad-read}
 use Rattle.decimal.proofs.Runs.{run-more, run-stop, run-over, run-end, digit-more, room}
 use Rattle.decimal.proofs.run.Statement.{statement}
 use Rattle.decimal.proofs.run.Tie as tie

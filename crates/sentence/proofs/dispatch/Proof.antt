@@ -1,5 +1,5 @@
 -- `dispatch` meets its contract: type by type. Assumes nothing.
-use mathlib.Core.Path.{refl, ap, _∙_, subst}
+use mathlib.Core.Path.{refl, _∙_, subst}
 use denote.Ref.{now}
 use Rattle.frame.specs.Answer.{parts}
 use Rattle.sentence.specs.Sentence.{Answer}

@@ -1,5 +1,5 @@
 -- `parse_bytes` meets its contract: framing first, then the dispatch. Assumes nothing.
-use mathlib.Core.Path.{refl, _∙_, subst}
+use mathlib.Core.Path.{refl, subst}
 use denote.Ref.{now}
 use Rattle.sentence.specs.Sentence.{Answer, dispatch, answer}
 use Rattle.sentence.specs.Answer.{Says}

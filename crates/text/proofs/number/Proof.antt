@@ -1,10 +1,10 @@
 -- `number` meets its contract: the loop goes on from the digits that it has read, so that reading the whole text is
 -- reading what is left from `value`. The measure is what is left of the text. Assumes nothing.
-use Prim.Native.Nat.{ℕ, _+_, _-_, _*_, _≤_, _<_}
+use Prim.Native.Nat.{_+_, _-_, _*_, _≤_}
 use native.Mathlib.Omega.{arith}
-use mathlib.Core.Path.{refl, _≡_, _∙_, ap}
+use mathlib.Core.Path.{refl, _≡_, _∙_}
 use denote.Ref.{now}
-use lib.ListN.{length, drop, getD}
+use lib.ListN.{length, drop}
 use borrow.Author.Needs.{needs}
 use Rattle.text.specs.Number.{number, numberFrom}
 use Rattle.text.proofs.Places.{a-read, no-read}

@@ -45,24 +45,23 @@ Holds [] = Unit {0}
 Holds (r ∷ rs) = (answer (r .0) ≡ r .1) × Holds rs
 
 abbrev pub rows : List Row
-rows =
-    (
-      bytes "$GPGSV,3,1,11,03,03,111,00,04,15,270,00,06,01,010,00,13,06,292,00*74",
-      isGsv
-          (record {
-            talker = bytes "GP";
-            system = gps;
-            body = record {
-              count = 3;
-              index = 1;
-              view = 11;
-              first = some (sat 3 3 111 0);
-              second = some (sat 4 15 270 0);
-              third = some (sat 6 1 10 0);
-              fourth = some (sat 13 6 292 0);
-            };
-          }),
-    )
+rows = (
+  bytes "$GPGSV,3,1,11,03,03,111,00,04,15,270,00,06,01,010,00,13,06,292,00*74",
+  isGsv
+      (record {
+        talker = bytes "GP";
+        system = gps;
+        body = record {
+          count = 3;
+          index = 1;
+          view = 11;
+          first = some (sat 3 3 111 0);
+          second = some (sat 4 15 270 0);
+          third = some (sat 6 1 10 0);
+          fourth = some (sat 13 6 292 0);
+        };
+      }),
+)
     ∷ (
       bytes "$GPGSV,3,3,11,22,42,067,42,24,14,311,43,27,05,244,00,,,,*4D",
       isGsv

@@ -1,0 +1,75 @@
+-- What follows from the code's answer to a line: its refusal's number, and its words. Only a GSA record has satellites, and its
+-- cells are they with zeros after them. Assumes nothing.
+use Prim.Native.Nat.{ℕ, zero, suc, _-_}
+use mathlib.Core.Path.{_≡_, refl, ap, sym, _∙_, subst}
+use mathlib.Core.List.{List, [], _∷_, _++_}
+use lib.ListN.{length, take, replicate, getD}
+use Rattle.frame.specs.Answer.{talkerBytes}
+use Rattle.gsa.specs.Gsa.{kept}
+use Rattle.gsa.specs.Answer.{row, system, dopsOf}
+use Rattle.sentence.specs.Sentence.{Answer}
+use Rattle.sentence.specs.Answer.{recordOf, Says, Beside}
+use Rattle.sentence.specs.declared.Record.{Record}
+use Rattle.sentence.specs.declared.Record.the-variants.{Rmc as ARmc, Gsa as AGsa, Gsv as AGsv, Other as AnOther, Refused as ARefusal}
+use Rattle.sentence.specs.declared.GsaRecord.{GsaRecord}
+use Rattle.sentence.specs.declared.ParseResult.{ParseResult}
+use Rattle.capi.specs.Layout.{refusalNumber, zeros, padded, gsaHead, gsaTail, words}
+use Rattle.capi.specs.Answer.{gsaRow, recordWords}
+
+pub refusal-of : {a : Answer} {p : ParseResult} {w : Record} → Says a p → p .answer ≡ w → refusalNumber (recordOf (take (p .count) (p .satellites)) w) ≡ refusalNumber a
+refusal-of {a} {p} {w} s e = ap (λ (x : Record). refusalNumber (recordOf (take (p .count) (p .satellites)) x)) (sym e) ∙ ap refusalNumber (s .says)
+
+-- zeros after a list change nothing of its padded words
+padded-zeros : (n k : ℕ) → padded n (replicate k 0) ≡ padded n []
+padded-zeros zero k = refl
+padded-zeros (suc n) zero = refl
+padded-zeros (suc n) (suc k) = ap (λ (l : List ℕ). 0 ∷ l) (padded-zeros n k)
+
+padded-after : (n k : ℕ) (l : List ℕ) → padded n (l ++ replicate k 0) ≡ padded n l
+padded-after zero k l = refl
+padded-after (suc n) k [] = padded-zeros (suc n) k
+padded-after (suc n) k (x ∷ l) = ap (λ (r : List ℕ). x ∷ r) (padded-after n k l)
+
+-- the cells read one by one
+unfoldable from : ℕ → ℕ → List ℕ → List ℕ
+from zero k l = []
+from (suc n) k l = getD l k 0 ∷ from n (suc k) l
+
+from-none : (n k : ℕ) → from n k [] ≡ padded n []
+unfolding from
+from-none zero k = refl
+from-none (suc n) k = ap (λ (r : List ℕ). 0 ∷ r) (from-none n (suc k))
+
+from-next : (n k x : ℕ) (l : List ℕ) → from n (suc k) (x ∷ l) ≡ from n k l
+unfolding from
+from-next zero k x l = refl
+from-next (suc n) k x l = ap (λ (r : List ℕ). getD l k 0 ∷ r) (from-next n (suc k) x l)
+
+from-first : (n : ℕ) (l : List ℕ) → from n 0 l ≡ padded n l
+unfolding from
+from-first zero l = refl
+from-first (suc n) [] = ap (λ (r : List ℕ). 0 ∷ r) (from-none n 1)
+from-first (suc n) (x ∷ l) = ap (λ (r : List ℕ). x ∷ r) (from-next n 0 x l ∙ from-first n l)
+
+pub cells-read : (l : List ℕ) → (getD l 0 0 ∷ getD l 1 0 ∷ getD l 2 0 ∷ getD l 3 0 ∷ getD l 4 0 ∷ getD l 5 0 ∷ getD l 6 0 ∷ getD l 7 0 ∷ getD l 8 0 ∷ getD l 9 0 ∷ getD l 10 0 ∷ getD l 11 0 ∷ getD l 12 0 ∷ getD l 13 0 ∷ getD l 14 0 ∷ getD l 15 0 ∷ getD l 16 0 ∷ getD l 17 0 ∷ []) ≡ padded 18 l
+unfolding from
+cells-read l = from-first 18 l
+
+-- a GSA record: its cells are its satellites with zeros after them
+gsa-words : (cells : List ℕ) (count : ℕ) (xs : List ℕ) (g : GsaRecord) → cells ≡ row xs → count ≡ length xs → gsaRow cells count g ≡ words (recordOf xs (AGsa g))
+gsa-words cells count xs g e f =
+    let head : List ℕ = gsaHead (talkerBytes (g .talker)) (g .head .mode) (g .head .fix) (system (g .head .system)) (dopsOf (g .head .dops)) in
+    ap (λ (n : ℕ). head ++ gsaTail n cells) f
+    ∙ ap (λ (l : List ℕ). head ++ (length xs ∷ (l ++ zeros 2))) (ap (padded 18) e ∙ padded-after 18 (kept - length xs) xs)
+
+by-record : (cells : List ℕ) (count : ℕ) (xs : List ℕ) (w : Record) → Beside (recordOf xs w) cells count → recordWords cells count w ≡ words (recordOf xs w)
+by-record cells count xs (ARmc d) b = refl
+by-record cells count xs (AGsa g) b = gsa-words cells count xs g (b .cells-are) (b .count-is)
+by-record cells count xs (AGsv g) b = refl
+by-record cells count xs (AnOther k) b = refl
+by-record cells count xs (ARefusal r) b = refl
+
+pub words-are : {a : Answer} {p : ParseResult} → Says a p → recordWords (p .satellites) (p .count) (p .answer) ≡ words a
+words-are {a} {p} s =
+    by-record (p .satellites) (p .count) (take (p .count) (p .satellites)) (p .answer) (subst (λ (x : Answer). Beside x (p .satellites) (p .count)) (sym (s .says)) (s .beside))
+    ∙ ap words (s .says)

@@ -1,8 +1,6 @@
 //! Runs docs/DIFFERENCES.md against our proved reader: what each row says of
 //! our answer.
 
-#![cfg(feature = "ours")]
-
 mod document;
 
 use std::error::Error;

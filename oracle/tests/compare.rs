@@ -1,7 +1,5 @@
 //! Compares our proved reader with the crate, line by line.
 
-#![cfg(feature = "ours")]
-
 use std::error::Error;
 
 use oracle::{compare, Ours};

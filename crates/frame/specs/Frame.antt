@@ -1,6 +1,6 @@
 -- 01, "Framing, in order of checks". The readers bear the names of parse.rs.
 use Prim.Native.Nat.{ℕ, _+_}
-use mathlib.Core.List.{List, _∷_, _++_}
+use mathlib.Core.List.{List, [], _∷_, _++_}
 use mathlib.Core.Bool.{cond}
 use lib.Dec.{eqb, leb}
 use lib.ListN.{length, take, drop}
@@ -86,3 +86,8 @@ sized l = cond (leb (length l) maxLength) (judged (sentence l)) (refused (tooLon
 -- "whole input valid UTF-8 (1); all bytes below 128 (2)"
 unfoldable pub frame : List ℕ → Outcome
 frame l = cond (utf8 l) (cond (ascii l) (sized l) (refused notAscii)) (refused badUtf8)
+
+-- "the framed answer shows the data as part of the caller's bytes, an empty part on a refusal"
+abbrev pub dataIn : Outcome → List ℕ
+dataIn (accepted p) = p .text
+dataIn (refused x) = []

@@ -5,6 +5,7 @@ mod sentence;
 mod sum;
 
 pub use parse::Framed;
+pub use parse::data_of;
 pub use parse::parse_nmea_sentence;
 pub use refusal::Kind;
 pub use refusal::Refusal;

@@ -12,7 +12,7 @@ ghost use mathlib.Core.Path.{_≡_};
 ghost use Rattle.text.specs.Placed.{Reads};
 ghost use lib.Seq.{slice};
 ghost use Rattle.frame.specs.Checksum.{checksum};
-ghost use Rattle.frame.specs.Frame.{taken, sentenceType, sentence, compared, sized, frame};
+ghost use Rattle.frame.specs.Frame.{taken, sentenceType, sentence, compared, sized, frame, dataIn};
 ghost use Rattle.frame.specs.Answer.{two, three, read, parts, framed};
 
 // Where the data begin, after `$`, talker, type and comma.
@@ -147,4 +147,14 @@ pub fn parse_nmea_sentence(s: &[u8]) -> Framed
         return Framed::Refused(Refusal::NotAscii);
     }
     Framed::Refused(Refusal::BadUtf8)
+}
+
+// The data of a line, a part of it; an empty part where the line is refused.
+pub fn data_of(line: &[u8]) -> &[u8]
+    ensures { λ r. ⌜ (now r ≡ dataIn (frame (now (line .entry)))) × (now (line .exit) ≡ now (line .entry)) ⌝ }
+{
+    let Framed::Is(x) = parse_nmea_sentence(line) else {
+        return &line[0..0];
+    };
+    x.data(line)
 }

@@ -74,3 +74,11 @@ gsv = do
   third ← opt entry
   fourth ← opt entry
   pure (record { count = count; index = index; view = view; first = first; second = second; third = third; fourth = fourth })
+
+abbrev pub keep : Option Satellite → List Satellite → List Satellite
+keep none es = es
+keep (some s) es = s ∷ es
+
+-- the present entries, in order
+abbrev pub present : Gsv → List Satellite
+present g = keep (g .first) (keep (g .second) (keep (g .third) (keep (g .fourth) [])))

@@ -1,0 +1,9 @@
+pub mod Tests
+pub mod Padding
+pub mod Back
+pub mod Greedy
+pub mod Runs
+pub mod Keys
+pub mod Meaning
+pub mod Tables
+pub mod LentRows

@@ -1,0 +1,15 @@
+use borrow.Author.Needs.{needs}
+use Rattle.gather.proofs.row.no_group.Statement.{statement}
+use Rattle.gather.proofs.row.no_group.Tie as tie
+use Rattle.gather.proofs.row.no_group.Reads as reads
+use Rattle.gather.proofs.row.no_group.Lts as lts
+use Rattle.gather.proofs.row.no_satellites.Reads as no-satellites-reads
+
+no-satellites-requires : tie.Need-no-satellites-requires
+no-satellites-requires c κs = search needs
+
+returns : tie.Need-returns
+returns c = rw (c .no-satellites .ensures)
+
+pub no-group-spec : {M : Type 1} → statement M
+no-group-spec = tie.close (tie.spec no-satellites-requires returns)

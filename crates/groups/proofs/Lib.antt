@@ -1,0 +1,5 @@
+pub mod Fold
+pub mod Handed
+pub mod Damage
+pub mod Alone
+pub mod Examples

@@ -1,0 +1,49 @@
+-- For the code, not for a reader of the scope: what its parts answer.
+use Prim.Native.Nat.{ℕ, _+_, _-_, _≤_}
+use mathlib.Core.Path.{_≡_}
+use mathlib.Core.List.{List, []}
+use lib.ListN.{length, take, drop}
+use Rattle.gsa.specs.Answer.{row}
+use Rattle.sentence.specs.Sentence.{isRmc, isGsa, isGsv, isOther, isRefused}
+use Rattle.lines.specs.Places.{lineAt}
+use Rattle.gather.specs.Put.{noGroup}
+use Rattle.gather.specs.declared.table.Gatherer.{Gatherer}
+use Rattle.gather.specs.declared.table.Handed.the-variants.{Nothing}
+use Rattle.log.specs.Line.{Said, blank, read}
+use Rattle.log.specs.declared.step.Stepped.{Stepped}
+use Rattle.log.specs.declared.step.StepAnswer.{StepAnswer}
+use Rattle.log.specs.declared.walk.Counts.{Counts}
+use Rattle.log.specs.declared.walk.Sort.{Sort}
+use Rattle.log.specs.declared.walk.Sort.the-variants.{Blank, Accepted, Refused}
+
+-- the line at p runs to r
+pub record CutAt (log : List ℕ) (p r : ℕ) : Type 0 where
+  pub after : p ≤ r
+  pub within : r ≤ length log
+  pub line : lineAt log p ≡ take (r - p) (drop p log)
+
+abbrev pub idleOf : Stepped → Gatherer → StepAnswer
+idleOf s g = record { stepped = s; satellites = row []; count = 0; handed = Nothing; group = noGroup; gatherer = g }
+
+abbrev pub sortOf : Said → Sort
+sortOf blank = Blank
+sortOf (read (isRmc r)) = Accepted
+sortOf (read (isGsa g)) = Accepted
+sortOf (read (isGsv s)) = Accepted
+sortOf (read (isOther k)) = Accepted
+sortOf (read (isRefused r)) = Refused
+
+abbrev pub talliedBy : Counts → Sort → ℕ → Counts
+talliedBy c Blank next =
+    record { lines = c .lines + 1; blank = c .blank + 1; accepted = c .accepted; refused = c .refused; groups = c .groups; next = next }
+talliedBy c Accepted next =
+    record { lines = c .lines + 1; blank = c .blank; accepted = c .accepted + 1; refused = c .refused; groups = c .groups; next = next }
+talliedBy c Refused next =
+    record { lines = c .lines + 1; blank = c .blank; accepted = c .accepted; refused = c .refused + 1; groups = c .groups; next = next }
+
+-- counts of a log of at most 65,536 bytes
+pub record Within (c : Counts) : Type 0 where
+  pub lines : c .lines ≤ 65536
+  pub blank : c .blank ≤ 65536
+  pub accepted : c .accepted ≤ 65536
+  pub refused : c .refused ≤ 65536

@@ -1,0 +1,36 @@
+-- What a line of the log is, and what it does to the gatherer.
+use Prim.Native.Nat.{ℕ}
+use mathlib.Core.List.{List, [], _∷_}
+use mathlib.Core.Option.{Option, none, some}
+use Rattle.sentence.specs.Sentence.{Answer, isRmc, isGsa, isGsv, isOther, isRefused, GsvSentence, answer}
+use Rattle.gather.specs.declared.table.Gatherer.{Gatherer}
+use Rattle.gather.specs.declared.table.Gathered.{Gathered}
+use Rattle.gather.specs.declared.table.Handed.the-variants.{Nothing}
+use Rattle.gather.specs.Put.{noGroup}
+use Rattle.gather.specs.Table.{gatheredOf}
+
+pub data Said : Type 0 where
+  blank : Said
+  read : Answer → Said
+
+-- "a line then empty is blank"; what another says is the reader's to say
+abbrev pub saidOf : List ℕ → Said
+saidOf [] = blank
+saidOf (b ∷ l) = read (answer (b ∷ l))
+
+-- the accepted GSV sentence that a line is
+abbrev pub gsvOf : Said → Option GsvSentence
+gsvOf blank = none
+gsvOf (read (isRmc r)) = none
+gsvOf (read (isGsa g)) = none
+gsvOf (read (isGsv s)) = some s
+gsvOf (read (isOther k)) = none
+gsvOf (read (isRefused r)) = none
+
+abbrev pub untouched : Gatherer → Gathered
+untouched g = record { gatherer = g; handed = Nothing; group = noGroup }
+
+-- only an accepted GSV line does anything
+abbrev pub gathers : Gatherer → Option GsvSentence → Gathered
+gathers g none = untouched g
+gathers g (some s) = gatheredOf g s

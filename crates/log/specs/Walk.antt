@@ -1,0 +1,115 @@
+-- A walk: as many steps as it may take, or as there are lines left, counted.
+use Prim.Native.Nat.{ℕ, zero, suc, _+_, min}
+use mathlib.Core.List.{List, [], _∷_}
+use mathlib.Core.Bool.{Bool, true, false, cond}
+use lib.Dec.{ltb}
+use lib.ListN.{length, drop}
+use Rattle.frame.specs.Refused.{Refused, logTooLong, badPlace}
+use Rattle.sentence.specs.Sentence.{isRmc, isGsa, isGsv, isOther, isRefused}
+use Rattle.lines.specs.Lines.{lines}
+use Rattle.lines.specs.Places.{isPlace}
+use Rattle.gather.specs.declared.table.Gatherer.{Gatherer}
+use Rattle.gather.specs.declared.table.Gathered.{Gathered}
+use Rattle.gather.specs.declared.table.Handed.{Handed}
+use Rattle.gather.specs.declared.table.Handed.the-variants.{Nothing, Of}
+use Rattle.log.specs.Line.{Said, blank, read}
+use Rattle.log.specs.Step.{longest, Step, refused, end, line, Stepped, stepOf}
+use Rattle.log.specs.declared.walk.Counts.{Counts}
+
+-- a Bool as the number of times that it is so
+abbrev pub one : Bool → ℕ
+one true = 1
+one false = 0
+
+-- "lines are blank, accepted or refused, each counted from the log"
+abbrev pub isBlank : Said → Bool
+isBlank blank = true
+isBlank (read a) = false
+
+abbrev pub isRefusal : Said → Bool
+isRefusal blank = false
+isRefusal (read (isRmc r)) = false
+isRefusal (read (isGsa g)) = false
+isRefusal (read (isGsv s)) = false
+isRefusal (read (isOther k)) = false
+isRefusal (read (isRefused r)) = true
+
+-- "Other is accepted"
+abbrev pub isAccepted : Said → Bool
+isAccepted blank = false
+isAccepted (read (isRmc r)) = true
+isAccepted (read (isGsa g)) = true
+isAccepted (read (isGsv s)) = true
+isAccepted (read (isOther k)) = true
+isAccepted (read (isRefused r)) = false
+
+abbrev pub isHanded : Handed → Bool
+isHanded Nothing = false
+isHanded (Of s) = true
+
+abbrev pub tallied : Counts → Said → ℕ → Counts
+tallied c said next =
+    record {
+      lines = c .lines + 1;
+      blank = c .blank + one (isBlank said);
+      accepted = c .accepted + one (isAccepted said);
+      refused = c .refused + one (isRefusal said);
+      groups = c .groups;
+      next = next;
+    }
+
+-- where a group is handed out, one group more
+abbrev pub grouped : Counts → Bool → Counts
+grouped c false = c
+grouped c true =
+    record {
+      lines = c .lines;
+      blank = c .blank;
+      accepted = c .accepted;
+      refused = c .refused;
+      groups = c .groups + 1;
+      next = c .next;
+    }
+
+-- how far a walk has come
+pub record Going : Type 0 where
+  pub counts : Counts
+  pub gatherer : Gatherer
+
+-- a step's answer, counted; only a line counts
+abbrev pub counted : Going → Gathered → Step → Going
+counted w a (line said next) = record { counts = grouped (tallied (w .counts) said next) (isHanded (a .handed)); gatherer = a .gatherer }
+counted w a (end p) = w
+counted w a (refused r) = w
+
+abbrev pub onward : List ℕ → Going → Going
+onward log w =
+    let s = stepOf log (w .counts .next) (w .gatherer) in
+    counted w (s .gathered) (s .answer)
+
+unfoldable pub steps : ℕ → List ℕ → Going → Going
+steps zero log w = w
+steps (suc k) log w = steps k log (onward log w)
+
+-- before its first step
+abbrev pub begin : ℕ → Gatherer → Going
+begin p g = record { counts = record { lines = 0; blank = 0; accepted = 0; refused = 0; groups = 0; next = p }; gatherer = g }
+
+-- a refusal alone, or the counts
+pub data Walk : Type 0 where
+  barred : Refused → Walk
+  went : Counts → Walk
+
+pub record Walked : Type 0 where
+  pub answer : Walk
+  pub gatherer : Gatherer
+
+abbrev pub gone : Going → Walked
+gone w = record { answer = went (w .counts); gatherer = w .gatherer }
+
+-- "it takes the smaller of that allowance and the lines left, and equals that many steps, next place and gatherer included"
+unfoldable pub walkOf : List ℕ → ℕ → ℕ → Gatherer → Walked
+walkOf log p allowance g =
+    cond (ltb longest (length log)) (record { answer = barred (logTooLong (length log)); gatherer = g })
+    (cond (isPlace log p) (gone (steps (min allowance (length (lines (drop p log)))) log (begin p g)))
+    (record { answer = barred (badPlace p); gatherer = g }))

@@ -1,0 +1,4 @@
+// The log walk: the line at a place, a step, a walk.
+pub mod line;
+pub mod step;
+pub mod walk;

@@ -1,0 +1,137 @@
+// Places and lines of a log.
+ghost use mathlib.Core.Path.{_≡_};
+ghost use mathlib.Core.List.{[]};
+ghost use Prim.Native.Nat.{_+_, _≤_, _<_, min};
+ghost use lib.ListN.{length, drop};
+ghost use Rattle.lines.specs.Places.{isPlace, stretch};
+ghost use Rattle.log.specs.Line.{gsvOf};
+ghost use Rattle.log.specs.Answer.{saidIn, foundIn, SaysHere};
+ghost use Rattle.log.specs.Code.{CutAt};
+use sentence::GsvRecord;
+use sentence::Record;
+
+// A log has at most this many bytes.
+pub const LONGEST: usize = 65536;
+
+// How many satellites stand beside a line's answer.
+pub const CELLS: usize = 18;
+
+// Whether a step can begin there: 0, the length, or just after a line feed.
+pub fn is_place(log: &[u8], place: usize) -> bool
+    ensures { λ r. ⌜ (r ≡ isPlace (now (log .entry)) place) × (now (log .exit) ≡ now (log .entry)) ⌝ }
+{
+    if place == 0 {
+        return true;
+    }
+    if place == log.len() {
+        return true;
+    }
+    if log.len() < place {
+        return false;
+    }
+    log[place - 1] == b'\n'
+}
+
+// The place of the first line feed from `at` on, or the end.
+fn line_end(log: &[u8], at: usize) -> usize
+    ensures { λ r. ⌜ r ≡ at + length (stretch (drop at (now (log .entry)))) ⌝ }
+{
+    let mut i = at;
+    while i < log.len() {
+        if log[i] == b'\n' {
+            return i;
+        }
+        i += 1;
+    }
+    i
+}
+
+// The line's end without a carriage return before it.
+fn line_cut(log: &[u8], at: usize, end: usize) -> usize
+    requires { ⌜ (at ≤ length (now log)) × (end ≡ at + length (stretch (drop at (now log)))) ⌝ }
+    ensures { λ r. ⌜ CutAt (now (log .entry)) at r ⌝ }
+{
+    if end <= at {
+        return end;
+    }
+    if log[end - 1] == b'\r' {
+        return end - 1;
+    }
+    end
+}
+
+// The place after the line feed, or the end.
+fn line_next(log: &[u8], end: usize) -> usize
+    ensures { λ r. ⌜ r ≡ min (end + 1) (length (now (log .entry))) ⌝ }
+{
+    if end < log.len() {
+        return end + 1;
+    }
+    log.len()
+}
+
+// What a line of the log is.
+pub enum Said {
+    Blank,
+    Read(Record),
+}
+
+// The line at a place, the satellites beside its answer, and the place after it.
+pub struct Here {
+    pub said: Said,
+    pub satellites: [u32; CELLS],
+    pub count: usize,
+    pub next: usize,
+}
+
+// The line at a place that is not the end.
+pub(crate) fn line_here(log: &[u8], at: usize) -> Here
+    requires { ⌜ at < length (now log) ⌝ }
+    ensures { λ r. ⌜ SaysHere (now (log .entry)) at r ⌝ }
+{
+    let end = line_end(log, at);
+    let cut = line_cut(log, at, end);
+    let next = line_next(log, end);
+    if cut == at {
+        let said = Said::Blank;
+        return Here {
+            said,
+            satellites: [0u32; CELLS],
+            count: 0,
+            next,
+        };
+    }
+    let line = &log[at..cut];
+    let read = sentence::parse_bytes(line);
+    let answer = read.answer;
+    let satellites = read.satellites;
+    let count = read.count;
+    let said = Said::Read(answer);
+    Here {
+        said,
+        satellites,
+        count,
+        next,
+    }
+}
+
+// An accepted GSV line, or none.
+pub enum Found {
+    No,
+    Is(GsvRecord),
+}
+
+pub(crate) fn gsv_of(said: Said) -> Found
+    ensures { λ r. ⌜ foundIn r ≡ gsvOf (saidIn [] said) ⌝ }
+{
+    match said {
+        Said::Blank => Found::No,
+        Said::Read(a) => match a {
+            Record::Rmc(_) => Found::No,
+            Record::Gsa(_) => Found::No,
+            Record::Gsv(r) => Found::Is(r),
+            Record::Other(_) => Found::No,
+            Record::Refused(_) => Found::No,
+        },
+    }
+}

@@ -1,0 +1,165 @@
+// A walk: as many steps as it may take, or as there are lines left, counted.
+ghost use mathlib.Core.Path.{_≡_};
+ghost use mathlib.Core.List.{[]};
+ghost use Prim.Native.Nat.{_≤_};
+ghost use Rattle.log.specs.Walk.{grouped, walkOf};
+ghost use Rattle.log.specs.Answer.{saidIn, SaysWalk};
+ghost use Rattle.log.specs.Code.{sortOf, talliedBy, Within};
+use crate::line;
+use crate::line::Found;
+use crate::line::Said;
+use frame::Refusal;
+use gather::line::put_row;
+use gather::table;
+use gather::table::Gatherer;
+use sentence::Record;
+
+// What was counted, and the place where the next line begins.
+pub struct Counts {
+    pub lines: usize,
+    pub blank: usize,
+    pub accepted: usize,
+    pub refused: usize,
+    pub groups: usize,
+    pub next: usize,
+}
+
+// A refusal alone, or the counts.
+pub enum Walked {
+    Refused(Refusal),
+    Went(Counts),
+}
+
+pub struct WalkAnswer {
+    pub walked: Walked,
+    pub gatherer: Gatherer,
+}
+
+// What a line counts as.
+pub enum Sort {
+    Blank,
+    Accepted,
+    Refused,
+}
+
+fn sort_of(said: Said) -> Sort
+    ensures { λ r. ⌜ r ≡ sortOf (saidIn [] said) ⌝ }
+{
+    match said {
+        Said::Blank => Sort::Blank,
+        Said::Read(a) => match a {
+            Record::Rmc(_) => Sort::Accepted,
+            Record::Gsa(_) => Sort::Accepted,
+            Record::Gsv(_) => Sort::Accepted,
+            Record::Other(_) => Sort::Accepted,
+            Record::Refused(_) => Sort::Refused,
+        },
+    }
+}
+
+// One more line.
+fn tally(c: Counts, sort: Sort, next: usize) -> Counts
+    requires { ⌜ Within c ⌝ }
+    ensures { λ r. ⌜ r ≡ talliedBy c sort next ⌝ }
+{
+    let lines = c.lines + 1;
+    match sort {
+        Sort::Blank => Counts {
+            lines,
+            blank: c.blank + 1,
+            accepted: c.accepted,
+            refused: c.refused,
+            groups: c.groups,
+            next,
+        },
+        Sort::Accepted => Counts {
+            lines,
+            blank: c.blank,
+            accepted: c.accepted + 1,
+            refused: c.refused,
+            groups: c.groups,
+            next,
+        },
+        Sort::Refused => Counts {
+            lines,
+            blank: c.blank,
+            accepted: c.accepted,
+            refused: c.refused + 1,
+            groups: c.groups,
+            next,
+        },
+    }
+}
+
+fn with_group(c: Counts, handed: bool) -> Counts
+    requires { ⌜ c .groups ≤ 65536 ⌝ }
+    ensures { λ r. ⌜ r ≡ grouped c handed ⌝ }
+{
+    if handed {
+        return Counts {
+            lines: c.lines,
+            blank: c.blank,
+            accepted: c.accepted,
+            refused: c.refused,
+            groups: c.groups + 1,
+            next: c.next,
+        };
+    }
+    c
+}
+
+// At most `allowance` lines from a place on. Only the row of an accepted GSV line is copied, and back.
+pub fn walk(log: &[u8], place: usize, allowance: usize, g: Gatherer) -> WalkAnswer
+    ensures { λ r. ⌜ SaysWalk (walkOf (now (log .entry)) place allowance g) r × (now (log .exit) ≡ now (log .entry)) ⌝ }
+{
+    if line::LONGEST < log.len() {
+        let walked = Walked::Refused(Refusal::LogTooLong(log.len()));
+        return WalkAnswer {
+            walked,
+            gatherer: g,
+        };
+    }
+    if !line::is_place(log, place) {
+        let walked = Walked::Refused(Refusal::BadPlace(place));
+        return WalkAnswer {
+            walked,
+            gatherer: g,
+        };
+    }
+    let mut after = g;
+    let mut c = Counts {
+        lines: 0,
+        blank: 0,
+        accepted: 0,
+        refused: 0,
+        groups: 0,
+        next: place,
+    };
+    while c.lines < allowance {
+        let at = c.next;
+        if log.len() <= at {
+            break;
+        }
+        let h = line::line_here(log, at);
+        let said = h.said;
+        let next = h.next;
+        let sort = sort_of(said);
+        c = tally(c, sort, next);
+        let found = line::gsv_of(said);
+        let Found::Is(report) = found else {
+            continue;
+        };
+        let system = report.system;
+        let key = table::row_of(system);
+        let row = after.rows[key];
+        let out = put_row(row, report);
+        let left = out.row;
+        after.rows[key] = left;
+        c = with_group(c, out.handed);
+    }
+    let walked = Walked::Went(c);
+    WalkAnswer {
+        walked,
+        gatherer: after,
+    }
+}

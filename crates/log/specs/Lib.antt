@@ -3,3 +3,5 @@ pub mod Step
 pub mod Walk
 pub mod Answer
 pub mod Code
+pub mod Told
+pub mod Totals

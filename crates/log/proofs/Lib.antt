@@ -1,1 +1,10 @@
+pub mod Places
+pub mod AtPlace
+pub mod Adds
+pub mod OneStep
+pub mod Goes
+pub mod Answers
+pub mod Sums
+pub mod Again
+pub mod Handing
 pub mod Damage

@@ -1,0 +1,226 @@
+-- How a walk goes on: what holds whenever the loop is at its head, and why a turn keeps it: a turn of the code is one step of the walk.
+-- Assumes nothing.
+use Prim.Native.Nat.{ℕ, suc, _+_, _-_, _≤_, _<_, min}
+use native.Mathlib.Omega.{arith}
+use mathlib.Core.Path.{_≡_, refl, ap, sym, _∙_, subst}
+use mathlib.Core.List.{List, []}
+use mathlib.Core.Bool.{Bool, true, false}
+use lib.ListN.{length, drop, getD, set, length-set}
+use Rattle.lines.specs.Lines.{lines}
+use Rattle.lines.specs.Places.{isPlace, lineAt, nextPlace}
+use Rattle.lines.proofs.Next.{next-within, next-more, next-place, lines-here, lines-end}
+use Rattle.groups.specs.Step.{step}
+use Rattle.gsv.specs.Talker.{System}
+use Rattle.gsv.specs.Answer.{gnss}
+use Rattle.rows.specs.Key.{keyOf, rowCount}
+use Rattle.rows.specs.Line.{lineOf}
+use Rattle.sentence.specs.Sentence.{isRmc, isGsa, isGsv, isOther, isRefused}
+use Rattle.sentence.specs.Answer.{gsvSentence}
+use Rattle.sentence.specs.declared.GsvRecord.{GsvRecord}
+use Rattle.gather.specs.declared.row.Row.{Row}
+use Rattle.gather.specs.declared.line.Kept.{Kept}
+use Rattle.gather.specs.declared.table.Gatherer.{Gatherer}
+use Rattle.gather.specs.declared.table.Gathered.{Gathered}
+use Rattle.gather.specs.Put.{meant, putOf, keptOf}
+use Rattle.gather.specs.Table.{handedBy}
+use Rattle.gather.proofs.Keys.{stored-is}
+use Rattle.log.specs.declared.line.Found.{Found}
+use Rattle.log.specs.declared.line.Found.the-variants.{No, Is}
+use Rattle.log.specs.declared.line.Here.{Here}
+use Rattle.log.specs.declared.walk.Counts.{Counts}
+use Rattle.log.specs.declared.walk.Sort.{Sort}
+use Rattle.log.specs.Line.{Said, blank, read, saidOf, gsvOf, gathers}
+use Rattle.log.specs.Step.{Stepped}
+use Rattle.log.specs.Walk.{one, isBlank, isAccepted, isRefusal, isHanded, tallied, grouped, Going, counted, onward, steps, begin}
+use Rattle.log.specs.Answer.{saidIn, foundIn, SaysHere}
+use Rattle.log.specs.Code.{sortOf, talliedBy, Within}
+use Rattle.log.proofs.Places.{place-within}
+use Rattle.log.proofs.Adds.{found-is, adds}
+use Rattle.log.proofs.OneStep.{at-line, good-place}
+
+-- the counts with a line more, and what it does to the gatherer
+abbrev goingBy : Counts → Gathered → Going
+goingBy c a = record { counts = grouped c (isHanded (a .handed)); gatherer = a .gatherer }
+
+abbrev lineTallied : List ℕ → Counts → Counts
+lineTallied log c = tallied c (saidOf (lineAt log (c .next))) (nextPlace log (c .next))
+
+abbrev lineGathered : List ℕ → Going → Gathered
+lineGathered log w = gathers (w .gatherer) (gsvOf (saidOf (lineAt log (w .counts .next))))
+
+-- a step at a line
+abbrev pub going : List ℕ → Going → Going
+going log w = goingBy (lineTallied log (w .counts)) (lineGathered log w)
+
+pub onward-line : (log : List ℕ) (w : Going) → length log ≤ 65536 → isPlace log (w .counts .next) ≡ true → (w .counts .next ≡ length log → ⊥)
+    → onward log w ≡ going log w
+onward-line log w short place n =
+    sym
+    (ap (λ (s : Stepped). counted w (s .gathered) (s .answer))
+    (at-line log (w .counts .next) (w .gatherer) n ∙ good-place log (w .counts .next) (w .gatherer) short place))
+
+-- a group more changes neither the lines nor the place
+grouped-next : (c : Counts) (b : Bool) → grouped c b .next ≡ c .next
+grouped-next c true = refl
+grouped-next c false = refl
+
+grouped-lines : (c : Counts) (b : Bool) → grouped c b .lines ≡ c .lines
+grouped-lines c true = refl
+grouped-lines c false = refl
+
+pub going-next : (log : List ℕ) (w : Going) → going log w .counts .next ≡ nextPlace log (w .counts .next)
+going-next log w = grouped-next (lineTallied log (w .counts)) (isHanded (lineGathered log w .handed))
+
+-- the counts of a walk that stands within the log: every line is one of the three, and took a byte or more
+pub record Fit (log : List ℕ) (c : Counts) : Type 0 where
+  pub place : isPlace log (c .next) ≡ true
+  pub inside : c .next ≤ length log
+  pub few : c .lines ≤ c .next
+  pub sum : c .blank + c .accepted + c .refused ≡ c .lines
+  pub handed : c .groups ≤ c .lines
+
+-- a line is blank, accepted or refused
+pub one-of-three : (s : Said) → one (isBlank s) + one (isAccepted s) + one (isRefusal s) ≡ 1
+one-of-three blank = refl
+one-of-three (read (isRmc r)) = refl
+one-of-three (read (isGsa g)) = refl
+one-of-three (read (isGsv s)) = refl
+one-of-three (read (isOther k)) = refl
+one-of-three (read (isRefused r)) = refl
+
+fit-grouped : (log : List ℕ) (c : Counts) (b : Bool) → Fit log c → c .groups < c .lines → Fit log (grouped c b)
+fit-grouped log c false f h = f
+fit-grouped log c true f h = record { place = f .place; inside = f .inside; few = f .few; sum = f .sum; handed = omega arith }
+
+fit-tallied : (log : List ℕ) (c : Counts) (b : Bool) → Fit log c → c .next < length log → Fit log (grouped (lineTallied log c) b)
+fit-tallied log c b f h =
+    let e = one-of-three (saidOf (lineAt log (c .next))) in
+    let m = next-more log (c .next) h in
+    fit-grouped log (lineTallied log c) b
+    (record { place = next-place log (c .next) (omega arith); inside = next-within log (c .next); few = omega arith; sum = omega arith; handed = omega arith })
+    (omega arith)
+
+pub fit-within : (log : List ℕ) (c : Counts) → Fit log c → length log ≤ 65536 → Within c
+fit-within log c f h = record { lines = omega arith; blank = omega arith; accepted = omega arith; refused = omega arith }
+
+module _ (log : List ℕ) where
+  -- as many steps as are left, or as the allowance has
+  abbrev pub goOn : ℕ → Going → Going
+  goOn n w = steps (min n (length (lines (drop (w .counts .next) log)))) log w
+
+  pub go-none : (n : ℕ) (w : Going) → n ≡ 0 → goOn n w ≡ w
+  unfolding steps
+  go-none n w e =
+      let z : min n (length (lines (drop (w .counts .next) log))) ≡ 0 = omega arith in
+      ap (λ (k : ℕ). steps k log w) z
+
+  pub go-end : (n : ℕ) (w : Going) → length log ≤ w .counts .next → goOn n w ≡ w
+  unfolding steps
+  go-end n w h =
+      let l : length (lines (drop (w .counts .next) log)) ≡ 0 = ap length (lines-end log (w .counts .next) h) in
+      let z : min n (length (lines (drop (w .counts .next) log))) ≡ 0 = omega arith in
+      ap (λ (k : ℕ). steps k log w) z
+
+  pub go-more : (n : ℕ) (w : Going) → length log ≤ 65536 → isPlace log (w .counts .next) ≡ true → 0 < n → w .counts .next < length log
+      → goOn n w ≡ goOn (n - 1) (going log w)
+  unfolding steps
+  go-more n w short place pos h =
+      let p = w .counts .next in
+      let l : length (lines (drop p log)) ≡ suc (length (lines (drop (nextPlace log p) log))) = ap length (lines-here log p h) in
+      let z : min n (length (lines (drop p log))) ≡ suc (min (n - 1) (length (lines (drop (nextPlace log p) log)))) = omega arith in
+      ap (λ (k : ℕ). steps k log w) z
+      ∙ ap (steps (min (n - 1) (length (lines (drop (nextPlace log p) log)))) log) (onward-line log w short place (λ q. omega arith))
+      ∙ ap (λ (k : ℕ). steps (min (n - 1) (length (lines (drop k log)))) log (going log w)) (sym (going-next log w))
+
+-- the loop's invariant
+pub record Goes (log : List ℕ) (place allowance : ℕ) (g : Gatherer) (c : Counts) (a : Gatherer) : Type 0 where
+  pub short : length log ≤ 65536
+  pub fit : Fit log c
+  pub within : c .lines ≤ allowance
+  pub rows : length (a .rows) ≡ rowCount
+  pub same : goOn log allowance (begin place g) ≡ goOn log (allowance - c .lines) (record { counts = c; gatherer = a })
+
+pub goes-first : (log : List ℕ) (place allowance : ℕ) (g : Gatherer) → length log ≤ 65536 → isPlace log place ≡ true → length (g .rows) ≡ rowCount
+    → Goes log place allowance g (begin place g .counts) g
+goes-first log place allowance g short h r =
+    let z : allowance ≡ allowance - 0 = omega arith in
+    record {
+      short = short;
+      fit = record { place = h; inside = place-within log place h; few = omega arith; sum = refl; handed = omega arith };
+      within = omega arith;
+      rows = r;
+      same = ap (λ (k : ℕ). goOn log k (begin place g)) z;
+    }
+
+module _ (log : List ℕ) (place allowance : ℕ) (g : Gatherer) (c : Counts) (a : Gatherer) (now' : Goes log place allowance g c a)
+    (more : c .lines < allowance) (in' : c .next < length log) where
+  abbrev w : Going
+  w = record { counts = c; gatherer = a }
+
+  goes-on : (c' : Counts) (a' : Gatherer) → _≡_ {A = Going} (record { counts = c'; gatherer = a' }) (going log w) → length (a' .rows) ≡ rowCount
+      → Goes log place allowance g c' a'
+  goes-on c' a' e r =
+      let b = isHanded (lineGathered log w .handed) in
+      let l : c' .lines ≡ c .lines + 1 = ap (λ (v : Going). v .counts .lines) e ∙ grouped-lines (lineTallied log c) b in
+      let k : allowance - c .lines - 1 ≡ allowance - c' .lines = omega arith in
+      let pos : 0 < allowance - c .lines = omega arith in
+      record {
+        short = now' .short;
+        fit = subst (λ (v : Going). Fit log (v .counts)) (sym e) (fit-tallied log c b (now' .fit) in');
+        within = omega arith;
+        rows = r;
+        same = now' .same
+            ∙ go-more log (allowance - c .lines) w (now' .short) (now' .fit .place) pos in'
+            ∙ ap (goOn log (allowance - c .lines - 1)) (sym e)
+            ∙ ap (λ (j : ℕ). goOn log j (record { counts = c'; gatherer = a' })) k;
+      }
+
+  -- the line there, as the code has it
+  module _ (h : Here) (sh : SaysHere log (c .next) h) (s : Sort) (es : s ≡ sortOf (saidIn [] (h .said)))
+      (t : Counts) (et : t ≡ talliedBy c s (h .next)) where
+    right : t ≡ lineTallied log c
+    right = adds log (c .next) h sh c es et
+
+    -- the place grows
+    pub further : length log - t .next < length log - c .next
+    further =
+        let e : t .next ≡ nextPlace log (c .next) = ap (λ (x : Counts). x .next) right in
+        omega (arith, next-more log (c .next) in', next-within log (c .next))
+
+    pub further-grouped : (b : Bool) (c' : Counts) → c' ≡ grouped t b → length log - c' .next < length log - c .next
+    further-grouped b c' e =
+        let z : c' .next ≡ t .next = ap (λ (x : Counts). x .next) e ∙ grouped-next t b in
+        omega (arith, further)
+
+    pub few-groups : t .groups ≤ 65536
+    few-groups =
+        let e : t .groups ≡ c .groups = ap (λ (x : Counts). x .groups) right in
+        omega (arith, now' .short, now' .fit)
+
+    -- and what it is
+    module _ (f : Found) (ef : foundIn f ≡ gsvOf (saidIn [] (h .said))) where
+      found : {x : Found} → f ≡ x → gathers a (foundIn x) ≡ lineGathered log w
+      found e = sym (ap (λ (y : Found). gathers a (foundIn y)) e) ∙ ap (gathers a) (found-is log (c .next) h sh ef)
+
+      pub after-other : f ≡ No → Goes log place allowance g t a
+      after-other e =
+          goes-on t a ((λ i. record { counts = right i; gatherer = a }) ∙ ap (goingBy (lineTallied log c)) (found e)) (now' .rows)
+
+      handed-is : (y : System) (b : Bool) → isHanded (handedBy y b) ≡ b
+      handed-is y true = refl
+      handed-is y false = refl
+
+      pub after-kept : (r : GsvRecord) → f ≡ Is r → (k : ℕ) → k ≡ keyOf (gnss (r .system)) → (d : Row) (o : Kept)
+          → o ≡ keptOf (step (meant (getD (a .rows) k d)) (lineOf (gsvSentence r))) → (c' : Counts) → c' ≡ grouped t (o .handed)
+          → Goes log place allowance g c' (record { rows = set (a .rows) k (o .row) })
+      after-kept r e k ek d o eo c' ec =
+          let l = gsvSentence r in
+          let x = putOf (step (meant (getD (a .rows) k d)) (lineOf l)) in
+          let b : Bool = isHanded (handedBy (l .system) (x .handed)) in
+          goes-on c' (record { rows = set (a .rows) k (o .row) })
+          ((λ i. record {
+            counts = (ec ∙ (λ j. grouped (right j) (eo j .handed)) ∙ ap (grouped (lineTallied log c)) (sym (handed-is (l .system) (x .handed)))) i;
+            gatherer = record { rows = set (a .rows) k (eo i .row) };
+          })
+          ∙ ap (goingBy (lineTallied log c)) (stored-is a l x d k (now' .rows) ek refl refl ∙ found e))
+          (length-set (a .rows) k (o .row) ∙ now' .rows)

@@ -58,6 +58,11 @@ module _ (a b : List ℕ) (whole : Whole a) where
   before : (m : List ℕ) → length (told a ++ told m) ≡ length (says a) + length (says m)
   before m = let e = told-length a in let f = told-length m in length-append (told a) (told m) ∙ (omega arith)
 
+  -- how many lines there are
+  pub says-count : (m : List ℕ) → Whole m ⊎ (b ≡ []) → length (says (a ++ (m ++ b))) ≡ length (says a) + length (says m) + length (says b)
+  says-count m w =
+      ap length (says-parts m w) ∙ length-append (says a ++ says m) (says b) ∙ ap (λ (k : ℕ). k + length (says b)) (length-append (says a) (says m))
+
   -- the i-th line of a, and of b
   pub line-before : (m : List ℕ) (i : ℕ) → i < length (says a) → getD (says (a ++ (m ++ b))) i blank ≡ getD (says a) i blank
   line-before m i h =

@@ -33,7 +33,7 @@ use Rattle.log.specs.Line.{Said, blank, read, saidOf, gsvOf, gathers}
 use Rattle.log.specs.Step.{longest, Stepped, line, stepOf}
 use Rattle.log.specs.Walk.{Going, begin, steps}
 use Rattle.log.specs.Totals.{gathered}
-use Rattle.log.specs.Told.{seen, says, seenOf, told, handedKey, Gives}
+use Rattle.log.specs.Told.{seen, says, seenOf, told, handedKey, Gives, stepAfter, lineIn}
 use Rattle.log.proofs.Places.{place-within, place-zero}
 use Rattle.log.proofs.OneStep.{at-line, good-place}
 use Rattle.log.proofs.Sums.{upto}
@@ -162,12 +162,9 @@ unfolding seeing
 told-before ls i = ap seenOf (map-take saidOf i ls) ∙ map-take seeing i (sayAll ls)
 
 module _ (log : List ℕ) (short : length log ≤ longest) (i : ℕ) (within : i < length (says log)) where
-  -- the walk after i steps from place 0 and a fresh gatherer, and the next step's answer
-  abbrev pub there : Going
+  -- where the walk has come
+  abbrev there : Going
   there = steps i log (begin 0 freshGatherer)
-
-  abbrev pub answered-there : Stepped
-  answered-there = stepOf log (there .counts .next) (there .gatherer)
 
   abbrev table : Table Satellite
   table = after fresh (take i (told log))
@@ -199,7 +196,7 @@ module _ (log : List ℕ) (short : length log ≤ longest) (i : ℕ) (within : i
   abbrev its : Option GsvSentence
   its = gsvOf (saidOf (getD (lines log) i []))
 
-  by-step : answered-there
+  by-step : stepAfter i log
       ≡ record {
         answer = line (saidOf (lineAt log (there .counts .next))) (nextPlace log (there .counts .next));
         gathered = gathers (there .gatherer) (gsvOf (saidOf (lineAt log (there .counts .next))));
@@ -208,7 +205,7 @@ module _ (log : List ℕ) (short : length log ≤ longest) (i : ℕ) (within : i
       let s = still in
       sym (at-line log (there .counts .next) (there .gatherer) (λ q. omega arith) ∙ good-place log (there .counts .next) (there .gatherer) short (reached .place))
 
-  by-theory : answered-there .gathered ≡ gathers (held table) its
+  by-theory : stepAfter i log .gathered ≡ gathers (held table) its
   by-theory =
       ap (λ (s : Stepped). s .gathered) by-step
       ∙ ap (λ (g : Gatherer). gathers g (gsvOf (saidOf (lineAt log (there .counts .next))))) (its-gatherer .0)
@@ -217,15 +214,15 @@ module _ (log : List ℕ) (short : length log ≤ longest) (i : ℕ) (within : i
   its-answer : getD (answers fresh (told log)) i none ≡ answer table (seen its)
   its-answer = answers-at fresh (told log) i ∙ ap (answer table) (sym (told-at (lines log) i))
 
-  -- THE THEOREM: step i + 1 answers line i + 1
-  pub says-line : answered-there .answer ≡ line (getD (says log) i blank) (nextPlace log (there .counts .next))
+  -- THE THEOREM: it answers the line behind the i lines that the steps before it answered
+  pub says-line : lineIn (stepAfter i log .answer) ≡ some (getD (says log) i blank)
   says-line =
-      ap (λ (s : Stepped). s .answer) by-step
-      ∙ ap (λ (l : List ℕ). line (saidOf l) (nextPlace log (there .counts .next))) its-line
-      ∙ ap (λ (s : Said). line s (nextPlace log (there .counts .next))) (sym (List·getD-map saidOf (lines log) i []))
+      ap (λ (s : Stepped). lineIn (s .answer)) by-step
+      ∙ ap (λ (l : List ℕ). some (saidOf l)) its-line
+      ∙ ap (λ (s : Said). some s) (sym (List·getD-map saidOf (lines log) i []))
 
   -- THE THEOREM: it hands out a group exactly where the definition says
-  pub hands-out : (h : Out Satellite) → Gives (answered-there .gathered) h ↔ HandedOut (told log) i h
+  pub hands-out : (h : Out Satellite) → Gives (stepAfter i log .gathered) h ↔ HandedOut (told log) i h
   hands-out h = (
     λ q.
         exact (told log) i h .0

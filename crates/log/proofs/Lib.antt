@@ -8,3 +8,4 @@ pub mod Sums
 pub mod Again
 pub mod Handing
 pub mod Damage
+pub mod Demand

@@ -1,5 +1,6 @@
 -- The log as the theory of groups sees it: for each line in order, the accepted GSV line that it is, or other.
 use Prim.Native.Nat.{ℕ}
+use mathlib.Core.Path.{_≡_}
 use mathlib.Core.List.{List, map}
 use mathlib.Core.Option.{Option, none, some}
 use Rattle.gsv.specs.Answer.{gnss}
@@ -10,11 +11,13 @@ use Rattle.rows.specs.Key.{keyOf}
 use Rattle.rows.specs.Line.{lineOf}
 use Rattle.sentence.specs.Sentence.{GsvSentence}
 use Rattle.gather.specs.Put.{groupOf}
+use Rattle.gather.specs.Table.{freshGatherer}
 use Rattle.gather.specs.declared.table.Handed.{Handed}
 use Rattle.gather.specs.declared.table.Handed.the-variants.{Nothing, Of}
 use Rattle.gather.specs.declared.table.Gathered.{Gathered}
-use mathlib.Core.Path.{_≡_}
 use Rattle.log.specs.Line.{Said, saidOf, gsvOf}
+use Rattle.log.specs.Step.{Step, refused, end, line, Stepped, stepOf}
+use Rattle.log.specs.Walk.{begin, steps}
 
 abbrev pub seen : Option GsvSentence → Line Satellite
 seen none = other
@@ -39,3 +42,15 @@ handedKey (Of s) = some (keyOf (gnss s))
 pub record Gives (a : Gathered) (h : Out Satellite) : Type 0 where
   pub key : handedKey (a .handed) ≡ some (h .key)
   pub group : a .group ≡ groupOf (some (h .group))
+
+-- the step after i steps, "place 0 and a fresh gatherer" before the first
+abbrev pub stepAfter : ℕ → List ℕ → Stepped
+stepAfter i log =
+    let w = steps i log (begin 0 freshGatherer) in
+    stepOf log (w .counts .next) (w .gatherer)
+
+-- the line that a step answers
+abbrev pub lineIn : Step → Option Said
+lineIn (refused r) = none
+lineIn (end p) = none
+lineIn (line s p) = some s

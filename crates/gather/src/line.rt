@@ -219,24 +219,24 @@ pub fn put_row(row: Row, line: GsvRecord) -> Kept
             handed: false,
         };
     }
-    let d = line.data;
-    if d.index == d.count {
+    let body = line.data;
+    if body.index == body.count {
         let row = row::empty_row();
         return Kept {
             row: row,
             handed: true,
         };
     }
-    let e = present(d);
+    let e = present(body);
     let sats = s.sats;
     let count = s.count;
     let more = e.sats;
     let n = e.count;
     let all = add(sats, count, more, n);
     let row = Row {
-        n: d.count,
-        next: d.index + 1,
-        view: d.view,
+        n: body.count,
+        next: body.index + 1,
+        view: body.view,
         count: count + n,
         sats: all,
     };

@@ -9,3 +9,4 @@ pub mod Again
 pub mod Handing
 pub mod Damage
 pub mod Demand
+pub mod Quiet

@@ -1,0 +1,49 @@
+-- 01, demand 1: "a refusal hands back no record and no group; .. the gatherer stand[s] as before". A step changes the gatherer at an accepted
+-- GSV line alone. Assumes nothing.
+use Prim.Native.Nat.{ℕ}
+use native.Mathlib.Omega.{arith}
+use mathlib.Core.Path.{_≡_, refl, ap, sym, _∙_}
+use mathlib.Core.List.{List}
+use mathlib.Core.Bool.{Bool, true, false, cond}
+use mathlib.Core.Option.{Option, none, some}
+use lib.Dec.{eqb, ltb}
+use lib.ListN.{length}
+use Rattle.frame.specs.Refused.{Refused, logTooLong, badPlace}
+use Rattle.sentence.specs.Sentence.{GsvSentence, isRefused}
+use Rattle.lines.specs.Places.{isPlace, lineAt, nextPlace}
+use Rattle.gather.specs.declared.table.Gatherer.{Gatherer}
+use Rattle.log.specs.Line.{Said, blank, read, saidOf, gsvOf, untouched, gathers}
+use Rattle.log.specs.Step.{longest, Step, refused, end, line, Stepped, idle, stepAt, stepOf}
+
+-- a step's answer that is no accepted GSV line
+abbrev pub NoGsv : Step → Type 0
+NoGsv (refused r) = Unit {0}
+NoGsv (end p) = Unit {0}
+NoGsv (line s p) = gsvOf s ≡ none
+
+pub quiet : (log : List ℕ) (p : ℕ) (g : Gatherer) → NoGsv (stepOf log p g .answer) → stepOf log p g .gathered ≡ untouched g
+unfolding stepOf stepAt
+quiet log p g = go (ltb longest (length log)) (isPlace log p) (eqb p (length log))
+  where
+    s : Said
+    s = saidOf (lineAt log p)
+
+    here : Stepped
+    here = record { answer = line (saidOf (lineAt log p)) (nextPlace log p); gathered = gathers g (gsvOf (saidOf (lineAt log p))) }
+
+    go : (a b c : Bool)
+        → NoGsv
+        (cond a (idle (refused (logTooLong (length log))) g) (cond b (cond c (idle (end p) g) here) (idle (refused (badPlace p)) g)) .answer)
+        → cond a (idle (refused (logTooLong (length log))) g) (cond b (cond c (idle (end p) g) here) (idle (refused (badPlace p)) g)) .gathered
+        ≡ untouched g
+    go true b c n = refl
+    go false true true n = refl
+    go false true false n = ap (gathers g) n
+    go false false c n = refl
+
+-- a refused line is such an answer, and so is a blank one
+pub refused-line : (r : Refused) → gsvOf (read (isRefused r)) ≡ none
+refused-line r = refl
+
+pub blank-line : gsvOf blank ≡ none
+blank-line = refl

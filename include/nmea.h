@@ -45,6 +45,17 @@ uint32_t nmea_refusal(const uint8_t *line, size_t length);
  */
 uint32_t nmea_answer(const uint8_t *line, size_t length, uint64_t *words, size_t count);
 
+/* The words of a log's totals. */
+#define NMEA_TOTALS 5
+
+/* What nmea_walk answers where its buffer is too short. */
+#define NMEA_SHORT 255
+
+/* Walks a whole log, from its start and with a fresh gatherer. With a buffer of five words or more it writes lines, blank, accepted,
+ * refused and groups into the first five and answers 0; words after them are left as they were. A log over 65,536 bytes is answered 12,
+ * a shorter buffer 255, and nothing is written. */
+uint32_t nmea_walk(const uint8_t *log, size_t length, uint64_t *totals, size_t count);
+
 #ifdef __cplusplus
 }
 #endif

@@ -1,2 +1,3 @@
 pub mod Layout
 pub mod Answer
+pub mod Totals

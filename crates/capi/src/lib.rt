@@ -1,4 +1,6 @@
 // What C and Rust call: a line's refusal number, and its whole answer in 40 words.
+pub mod totals;
+
 ghost use mathlib.Core.Path.{_≡_};
 ghost use mathlib.Core.List.{_++_, _∷_};
 ghost use Prim.Native.Nat.{_≤_};

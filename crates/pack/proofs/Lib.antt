@@ -1,3 +1,4 @@
+pub mod Examples
 pub mod Greedy
 pub mod Rows
 pub mod Few

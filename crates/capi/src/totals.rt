@@ -1,0 +1,48 @@
+// The totals of a whole log, for C and Rust.
+ghost use mathlib.Core.Path.{_≡_};
+ghost use mathlib.Core.List.{_++_};
+ghost use Prim.Native.Nat.{_≤_};
+ghost use lib.ListN.{length, drop};
+ghost use Rattle.capi.specs.Totals.{totalsOf, WalkedAll};
+use gather::table;
+use log::walk;
+use log::walk::Counts;
+use log::walk::Walked;
+
+// How many totals there are.
+const TOTALS: usize = 5;
+
+// The answer where the buffer is too short for them; no refusal has this number.
+const SHORT: u32 = 255;
+
+fn put_totals(out: &mut [u64], c: Counts)
+    requires { ⌜ 5 ≤ length (now out) ⌝ }
+    ensures { λ _. ⌜ now (out .exit) ≡ totalsOf c ++ drop 5 (now (out .entry)) ⌝ }
+{
+    out[0] = c.lines as u64;
+    out[1] = c.blank as u64;
+    out[2] = c.accepted as u64;
+    out[3] = c.refused as u64;
+    out[4] = c.groups as u64;
+}
+
+// Walks the whole log from its start with a fresh gatherer. Lines, blank, accepted, refused and groups in the first five words, and 0; or
+// the number of the log's refusal, or 255 where the buffer is shorter, and nothing written.
+#[no_mangle]
+pub extern "C" fn nmea_walk(log: &[u8], totals: &mut [u64]) -> u32
+    ensures { λ r. ⌜ WalkedAll (now (log .entry)) (now (totals .entry)) (now (totals .exit)) r × (now (log .exit) ≡ now (log .entry)) ⌝ }
+{
+    if totals.len() < TOTALS {
+        return SHORT;
+    }
+    let g = table::fresh();
+    let w = walk::walk(log, 0, log.len(), g);
+    let walked = w.walked;
+    match walked {
+        Walked::Refused(why) => why.number(),
+        Walked::Went(c) => {
+            put_totals(totals, c);
+            0
+        }
+    }
+}

@@ -23,6 +23,7 @@ mod readers;
 mod refusal;
 mod rmc;
 mod shrink;
+mod totals;
 mod words;
 
 pub use answer::{Answer, F32Bits, F64Bits, System, TypeName};
@@ -38,4 +39,5 @@ pub use plain::{is_plain, Limits};
 pub use readers::{crate_answer, crate_gsa, crate_gsv, crate_rmc};
 pub use refusal::Refusal;
 pub use rmc::{Date, Rmc, Time};
+pub use totals::{totals_of, totals_of_file, Printed};
 pub use words::{answer_of, OursAnswer, Words};

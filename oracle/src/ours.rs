@@ -23,7 +23,7 @@ pub struct Ours {
 impl Ours {
     /// Finds the program, or says what is missing.
     pub fn find() -> Result<Self, String> {
-        Program::find().map(|program| Ours { program })
+        Program::find("answers").map(|program| Ours { program })
     }
 
     /// Our answers to a batch of lines. Each batch is a run of its own to the

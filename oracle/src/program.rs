@@ -1,4 +1,4 @@
-//! Where our proved program stands, and how it is run on this machine.
+//! Where our proved programs stand, and how they are run on this machine.
 
 use std::{
     env::{self, consts::ARCH},
@@ -8,10 +8,7 @@ use std::{
     process::Command,
 };
 
-/// A command line that is run as it stands, its words parted by spaces.
-const OVERRIDE: &str = "NMEA_ANSWERS";
-
-/// How the program is run.
+/// How a program is run.
 #[derive(Clone, Debug)]
 pub(crate) struct Program {
     words: Vec<OsString>,
@@ -21,11 +18,14 @@ pub(crate) struct Program {
 }
 
 impl Program {
-    pub(crate) fn find() -> Result<Self, String> {
-        if let Ok(line) = env::var(OVERRIDE) {
+    /// The program of that name. A command line in the environment's
+    /// `NMEA_NAME` is run as it stands instead, its words parted by spaces.
+    pub(crate) fn find(name: &str) -> Result<Self, String> {
+        let instead = format!("NMEA_{}", name.to_uppercase());
+        if let Ok(line) = env::var(&instead) {
             let words: Vec<OsString> = line.split_whitespace().map(OsString::from).collect();
             if words.is_empty() {
-                return Err(format!("{OVERRIDE} holds no command"));
+                return Err(format!("{instead} holds no command"));
             }
             return Ok(Program {
                 words,
@@ -34,16 +34,18 @@ impl Program {
         }
 
         let repository = Path::new(env!("CARGO_MANIFEST_DIR")).join("..");
-        let program = repository.join("target/bin/answers");
+        let program = repository.join("target/bin").join(name);
         if !program.is_file() {
-            return Err("target/bin/answers is not there: `rt check answers` makes it".into());
+            return Err(format!(
+                "target/bin/{name} is not there: `rt check {name}` makes it"
+            ));
         }
         let mut words = match toolchain() {
             Some(tools) => under_the_loader(&tools),
             None if ARCH == "x86_64" => vec![],
             None => {
                 return Err(format!(
-                    "target/bin/answers is for x86-64, and no `rt` is there to run it on {ARCH}"
+                    "target/bin/{name} is for x86-64, and no `rt` is there to run it on {ARCH}"
                 ))
             }
         };

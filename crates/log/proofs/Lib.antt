@@ -10,3 +10,4 @@ pub mod Handing
 pub mod Damage
 pub mod Demand
 pub mod Quiet
+pub mod Worked

@@ -7,3 +7,4 @@ pub mod Keys
 pub mod Meaning
 pub mod Tables
 pub mod LentRows
+pub mod Worked

@@ -1,4 +1,4 @@
--- The test of a lent row: whether lines of at most 102 bytes can leave it. `Exact` of proofs/ shows that it is just that.
+-- The test of a lent row: whether lines of at most 102 bytes can leave it. `LentRows` of proofs/ shows that it is just that.
 use Prim.Native.Nat.{ℕ, suc, _-_}
 use mathlib.Core.List.{List, [], _∷_}
 use mathlib.Core.Bool.{Bool, true, false, _&&_}

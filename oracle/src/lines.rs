@@ -11,6 +11,6 @@ mod sentence;
 mod texts;
 mod worked;
 
-pub use corpus::corpus_lines;
+pub use corpus::{corpus_lines, corpus_logs};
 pub use generator::Generator;
 pub use worked::worked_lines;

@@ -4,8 +4,7 @@ ghost use mathlib.Core.List.{_++_};
 ghost use Prim.Native.Nat.{_≤_};
 ghost use lib.ListN.{length, drop};
 ghost use Rattle.capi.specs.Totals.{totalsOf, WalkedAll};
-use gather::table;
-use log::walk;
+use log::totals::totals;
 use log::walk::Counts;
 use log::walk::Walked;
 
@@ -29,19 +28,16 @@ fn put_totals(out: &mut [u64], c: Counts)
 // Walks the whole log from its start with a fresh gatherer. Lines, blank, accepted, refused and groups in the first five words, and 0; or
 // the number of the log's refusal, or 255 where the buffer is shorter, and nothing written.
 #[no_mangle]
-pub extern "C" fn nmea_walk(log: &[u8], totals: &mut [u64]) -> u32
-    ensures { λ r. ⌜ WalkedAll (now (log .entry)) (now (totals .entry)) (now (totals .exit)) r × (now (log .exit) ≡ now (log .entry)) ⌝ }
+pub extern "C" fn nmea_walk(log: &[u8], out: &mut [u64]) -> u32
+    ensures { λ r. ⌜ WalkedAll (now (log .entry)) (now (out .entry)) (now (out .exit)) r × (now (log .exit) ≡ now (log .entry)) ⌝ }
 {
-    if totals.len() < TOTALS {
+    if out.len() < TOTALS {
         return SHORT;
     }
-    let g = table::fresh();
-    let w = walk::walk(log, 0, log.len(), g);
-    let walked = w.walked;
-    match walked {
+    match totals(log) {
         Walked::Refused(why) => why.number(),
         Walked::Went(c) => {
-            put_totals(totals, c);
+            put_totals(out, c);
             0
         }
     }

@@ -35,29 +35,30 @@ use Rattle.gather.proofs.Keys.{key-below}
 use Rattle.gather.proofs.Meaning.{round}
 use Rattle.gather.proofs.Back.{forths}
 
--- n rows from i on
-abbrev rows : ℕ → ℕ → (ℕ → Row) → List Row
-rows ℕ.zero i f = []
-rows (suc n) i f = f i ∷ rows n (suc i) f
+-- n rows of any kind, from i on
+module _ {X : Type 0} where
+  abbrev pub rows : ℕ → ℕ → (ℕ → X) → List X
+  rows ℕ.zero i f = []
+  rows (suc n) i f = f i ∷ rows n (suc i) f
 
-rows-at : (n i k : ℕ) (f : ℕ → Row) (d : Row) → k < n → getD (rows n i f) k d ≡ f (i + k)
-rows-at ℕ.zero i k f d h = absurd (omega arith)
-rows-at (suc n) i ℕ.zero f d h = let z : i ≡ i + 0 = omega arith in ap f z
-rows-at (suc n) i (suc k) f d h = let z : suc i + k ≡ i + suc k = omega arith in rows-at n (suc i) k f d (omega arith) ∙ ap f z
+  pub rows-at : (n i k : ℕ) (f : ℕ → X) (d : X) → k < n → getD (rows n i f) k d ≡ f (i + k)
+  rows-at ℕ.zero i k f d h = absurd (omega arith)
+  rows-at (suc n) i ℕ.zero f d h = let z : i ≡ i + 0 = omega arith in ap f z
+  rows-at (suc n) i (suc k) f d h = let z : suc i + k ≡ i + suc k = omega arith in rows-at n (suc i) k f d (omega arith) ∙ ap f z
 
-rows-same : (n i : ℕ) (f g : ℕ → Row) → ((k : ℕ) → i ≤ k → f k ≡ g k) → rows n i f ≡ rows n i g
-rows-same ℕ.zero i f g e = refl
-rows-same (suc n) i f g e = λ j. e i (omega arith) j ∷ rows-same n (suc i) f g (λ k h. e k (omega arith)) j
+  pub rows-same : (n i : ℕ) (f g : ℕ → X) → ((k : ℕ) → i ≤ k → f k ≡ g k) → rows n i f ≡ rows n i g
+  rows-same ℕ.zero i f g e = refl
+  rows-same (suc n) i f g e = λ j. e i (omega arith) j ∷ rows-same n (suc i) f g (λ k h. e k (omega arith)) j
 
-rows-set : (n i k m : ℕ) (f : ℕ → Row) (r : Row) → k < n → m ≡ i + k → set (rows n i f) k r ≡ rows n i (λ κ. pick (eqb m κ) r (f κ))
-rows-set ℕ.zero i k m f r h e = absurd (omega arith)
-rows-set (suc n) i ℕ.zero m f r h e =
-    λ j.
-    sym (ap (λ (b : Bool). pick b r (f i)) (eq-eqb m i (omega arith))) j
-    ∷ rows-same n (suc i) f (λ κ. pick (eqb m κ) r (f κ)) (λ k h'. sym (ap (λ (b : Bool). pick b r (f k)) (ne-eqb m k (λ q. omega arith)))) j
-rows-set (suc n) i (suc k) m f r h e =
-    λ j.
-    sym (ap (λ (b : Bool). pick b r (f i)) (ne-eqb m i (λ q. omega arith))) j ∷ rows-set n (suc i) k m f r (omega arith) (omega arith) j
+  pub rows-set : (n i k m : ℕ) (f : ℕ → X) (r : X) → k < n → m ≡ i + k → set (rows n i f) k r ≡ rows n i (λ κ. pick (eqb m κ) r (f κ))
+  rows-set ℕ.zero i k m f r h e = absurd (omega arith)
+  rows-set (suc n) i ℕ.zero m f r h e =
+      λ j.
+      sym (ap (λ (b : Bool). pick b r (f i)) (eq-eqb m i (omega arith))) j
+      ∷ rows-same n (suc i) f (λ κ. pick (eqb m κ) r (f κ)) (λ k h'. sym (ap (λ (b : Bool). pick b r (f k)) (ne-eqb m k (λ q. omega arith)))) j
+  rows-set (suc n) i (suc k) m f r h e =
+      λ j.
+      sym (ap (λ (b : Bool). pick b r (f i)) (ne-eqb m i (λ q. omega arith))) j ∷ rows-set n (suc i) k m f r (omega arith) (omega arith) j
 
 -- the gatherer that holds a table
 abbrev pub held : Table Satellite → Gatherer

@@ -18,11 +18,12 @@ use Rattle.sentence.specs.Sentence.{isRmc, isGsa, isGsv, isOther, isRefused}
 use Rattle.sentence.specs.Answer.{gsvSentence}
 use Rattle.sentence.specs.declared.GsvRecord.{GsvRecord}
 use Rattle.gather.specs.declared.row.Row.{Row}
+use Rattle.gather.specs.declared.row.Group.{Group}
 use Rattle.gather.specs.declared.line.Kept.{Kept}
 use Rattle.gather.specs.declared.table.Gatherer.{Gatherer}
 use Rattle.gather.specs.declared.table.Gathered.{Gathered}
 use Rattle.gather.specs.Put.{meant, putOf, keptOf}
-use Rattle.gather.specs.Table.{handedBy}
+use Rattle.gather.specs.Table.{handedBy, gatheredOf}
 use Rattle.gather.proofs.Keys.{stored-is}
 use Rattle.log.specs.declared.line.Found.{Found}
 use Rattle.log.specs.declared.line.Found.the-variants.{No, Is}
@@ -210,17 +211,27 @@ module _ (log : List ℕ) (place allowance : ℕ) (g : Gatherer) (c : Counts) (a
       handed-is y true = refl
       handed-is y false = refl
 
+      -- a line that gathers
+      pub after-gathered : (r : GsvRecord) → f ≡ Is r → (a' : Gatherer) (b : Bool) (q : Group)
+          → gatheredOf a (gsvSentence r) ≡ record { gatherer = a'; handed = handedBy (gsvSentence r .system) b; group = q }
+          → length (a' .rows) ≡ rowCount → (c' : Counts) → c' ≡ grouped t b → Goes log place allowance g c' a'
+      after-gathered r e a' b q eg long c' ec =
+          let y = gsvSentence r .system in
+          goes-on c' a'
+          ((λ i. record { counts = (ec ∙ (λ j. grouped (right j) b) ∙ ap (grouped (lineTallied log c)) (sym (handed-is y b))) i; gatherer = a' })
+          ∙ ap (goingBy (lineTallied log c)) (sym eg ∙ found e))
+          long
+
       pub after-kept : (r : GsvRecord) → f ≡ Is r → (k : ℕ) → k ≡ keyOf (gnss (r .system)) → (d : Row) (o : Kept)
           → o ≡ keptOf (step (meant (getD (a .rows) k d)) (lineOf (gsvSentence r))) → (c' : Counts) → c' ≡ grouped t (o .handed)
           → Goes log place allowance g c' (record { rows = set (a .rows) k (o .row) })
       after-kept r e k ek d o eo c' ec =
           let l = gsvSentence r in
           let x = putOf (step (meant (getD (a .rows) k d)) (lineOf l)) in
-          let b : Bool = isHanded (handedBy (l .system) (x .handed)) in
-          goes-on c' (record { rows = set (a .rows) k (o .row) })
-          ((λ i. record {
-            counts = (ec ∙ (λ j. grouped (right j) (eo j .handed)) ∙ ap (grouped (lineTallied log c)) (sym (handed-is (l .system) (x .handed)))) i;
-            gatherer = record { rows = set (a .rows) k (eo i .row) };
-          })
-          ∙ ap (goingBy (lineTallied log c)) (stored-is a l x d k (now' .rows) ek refl refl ∙ found e))
+          after-gathered r e (record { rows = set (a .rows) k (o .row) }) (x .handed) (x .group)
+          (sym
+          ((λ i. record { gatherer = record { rows = set (a .rows) k (eo i .row) }; handed = handedBy (l .system) (x .handed); group = x .group })
+          ∙ stored-is a l x d k (now' .rows) ek refl refl))
           (length-set (a .rows) k (o .row) ∙ now' .rows)
+          c'
+          (ec ∙ ap (λ (z : Kept). grouped t (z .handed)) eo)

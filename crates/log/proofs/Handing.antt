@@ -37,25 +37,8 @@ use Rattle.log.specs.Told.{seen, says, seenOf, told, handedKey, Gives, s
 use Rattle.log.proofs.Places.{place-within, place-zero}
 use Rattle.log.proofs.OneStep.{at-line, good-place}
 use Rattle.log.proofs.Sums.{upto}
+use Rattle.log.proofs.Adds.{none-some, some-same, written}
 use Rattle.log.proofs.Goes.{going, going-next, onward-line}
-
-some-same : {A : Type 0} {x y : A} → some x ≡ some y → x ≡ y
-some-same e = cc
-
-none-some : {A : Type 0} {x : A} → none ≡ some x → ⊥
-none-some e = let z : _≡_ {A = ℕ} 0 1 = cc in omega arith
-
--- the accepted GSV sentence that a line is was written: the line itself
-written : (l : List ℕ) (s : GsvSentence) → gsvOf (saidOf l) ≡ some s → Written s
-written [] s e = absurd (none-some e)
-written (b ∷ l) s e = go (answerOf (b ∷ l)) refl e
-  where
-    go : (a : Answer) → answerOf (b ∷ l) ≡ a → gsvOf (read a) ≡ some s → Written s
-    go (isRmc r) q e = absurd (none-some e)
-    go (isGsa g) q e = absurd (none-some e)
-    go (isGsv t) q e = record { line = b ∷ l; accepted = q ∙ ap isGsv (some-same e) }
-    go (isOther k) q e = absurd (none-some e)
-    go (isRefused r) q e = absurd (none-some e)
 
 -- the gatherer after some lines holds the theory's table after them
 abbrev sayAll : List (List ℕ) → List Said

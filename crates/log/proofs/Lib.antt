@@ -10,4 +10,6 @@ pub mod Handing
 pub mod Damage
 pub mod Demand
 pub mod Quiet
+pub mod Runs
+pub mod Counting
 pub mod Worked

@@ -42,7 +42,7 @@ pub enum Sort {
     Refused,
 }
 
-fn sort_of(said: Said) -> Sort
+pub(crate) fn sort_of(said: Said) -> Sort
     ensures { λ r. ⌜ r ≡ sortOf (saidIn [] said) ⌝ }
 {
     match said {
@@ -58,7 +58,7 @@ fn sort_of(said: Said) -> Sort
 }
 
 // One more line.
-fn tally(c: Counts, sort: Sort, next: usize) -> Counts
+pub(crate) fn tally(c: Counts, sort: Sort, next: usize) -> Counts
     requires { ⌜ Within c ⌝ }
     ensures { λ r. ⌜ r ≡ talliedBy c sort next ⌝ }
 {
@@ -91,7 +91,7 @@ fn tally(c: Counts, sort: Sort, next: usize) -> Counts
     }
 }
 
-fn with_group(c: Counts, handed: bool) -> Counts
+pub(crate) fn with_group(c: Counts, handed: bool) -> Counts
     requires { ⌜ c .groups ≤ 65536 ⌝ }
     ensures { λ r. ⌜ r ≡ grouped c handed ⌝ }
 {

@@ -3,9 +3,15 @@ use std::{
     path::{Path, PathBuf},
 };
 
-/// The lines of the logs in the corpus: those of the folder that the variable
-/// NMEA_CORPUS names, else of the one beside the repository.
+/// The lines of the logs in the corpus.
 pub fn corpus_lines() -> io::Result<Vec<Vec<u8>>> {
+    let logs = corpus_logs()?;
+    Ok(logs.iter().flat_map(|log| lines_of(log)).collect())
+}
+
+/// The logs in the corpus: those of the folder that the variable NMEA_CORPUS
+/// names, else of the one beside the repository.
+pub fn corpus_logs() -> io::Result<Vec<Vec<u8>>> {
     let folder = match env::var_os("NMEA_CORPUS") {
         Some(folder) => PathBuf::from(folder),
         None => Path::new(env!("CARGO_MANIFEST_DIR")).join("../../shared/corpus"),
@@ -25,12 +31,7 @@ pub fn corpus_lines() -> io::Result<Vec<Vec<u8>>> {
         }
     }
     logs.sort();
-
-    let mut lines = vec![];
-    for log in logs {
-        lines.extend(lines_of(&fs::read(log)?));
-    }
-    Ok(lines)
+    logs.iter().map(fs::read).collect()
 }
 
 /// The lines of a log: each ends at a line feed or the end, and one carriage

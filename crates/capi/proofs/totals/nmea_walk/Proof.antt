@@ -10,31 +10,28 @@ use Rattle.capi.proofs.totals.nmea_walk.Tie as tie
 returns : tie.Need-returns
 returns c = (record { written = λ h. clash (c .if1 .taken) h; short = λ h. (refl, refl) }, refl)
 
-fresh-requires : tie.Need-fresh-requires
-fresh-requires c κs = search needs
+totals-requires : tie.Need-totals-requires
+totals-requires c κs = search needs
 
-walk-requires : tie.Need-walk-requires
-walk-requires c κs = search needs
-
-enum-known-walked : tie.Need-enum-known-walked
-enum-known-walked c = search needs
+enum-known-why : tie.Need-enum-known-why
+enum-known-why c = search needs
 
 number-requires : tie.Need-number-requires
 number-requires c κs = search needs
 
-enum-known-walked-2 : tie.Need-enum-known-walked-2
-enum-known-walked-2 c = search needs
+enum-known-c : tie.Need-enum-known-c
+enum-known-c c = search needs
 
 put-totals-requires : tie.Need-put-totals-requires
 put-totals-requires c κs = search needs
 
 returns-2 : tie.Need-returns-2
 returns-2 c =
-    let a = c .before .before .before .before .before .before .before .before .before .args in
-    let w = c .before .before .before .before .walk in (
+    let t = c .before .before .before .before in
+    let a = t .before .before .before .before .args in (
       record {
-        written = λ h. tells-refused (now (a .log)) (now (a .totals)) (c .before .before .before .before .before .fresh .ensures) (w .result) (w .ensures .0) _ (c .before .before .walked .given .1) (c .number .ensures);
-        short = λ h. clash h (c .before .before .before .before .before .before .if1 .left);
+        written = λ h. tells-refused (now (a .log)) (now (a .out)) (t .totals .result) (t .totals .ensures .0) _ (c .before .before .why .given .1) (c .number .ensures);
+        short = λ h. clash h (t .before .if1 .left);
       },
       refl,
     )
@@ -44,11 +41,11 @@ same-length c = search needs
 
 returns-3 : tie.Need-returns-3
 returns-3 c =
-    let a = c .before .before .before .before .before .before .before .before .before .before .before .before .args in
-    let w = c .before .before .before .before .before .before .before .walk in (
+    let t = c .before .before .before .before .before .before .before in
+    let a = t .before .before .before .before .args in (
       record {
-        written = λ h. tells-went (now (a .log)) (now (a .totals)) (c .before .before .before .before .before .before .before .before .fresh .ensures) (w .result) (w .ensures .0) _ _ (c .before .before .before .before .before .walked2 .given .1) (c .before .before .put-totals .ensures);
-        short = λ h. clash h (c .before .before .before .before .before .before .before .before .before .if1 .left);
+        written = λ h. tells-went (now (a .log)) (now (a .out)) (t .totals .result) (t .totals .ensures .0) _ _ (c .before .before .before .before .before .c .given .1) (c .before .before .put-totals .ensures);
+        short = λ h. clash h (t .before .if1 .left);
       },
       refl,
     )
@@ -58,11 +55,10 @@ nmea-walk-spec =
     tie.close
     (tie.spec
     returns
-    fresh-requires
-    walk-requires
-    enum-known-walked
+    totals-requires
+    enum-known-why
     number-requires
-    enum-known-walked-2
+    enum-known-c
     put-totals-requires
     returns-2
     same-length

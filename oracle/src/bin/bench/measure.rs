@@ -1,0 +1,221 @@
+use std::{env, error::Error, hint::black_box, time::Instant};
+
+use nmea::{parse_bytes, ParseResult};
+use oracle::lines::{corpus_lines, corpus_logs};
+use proved_nmea::abi;
+
+use crate::gatherer::Gatherer;
+
+/// The longest log that our walk takes.
+const LONGEST_LOG: usize = 65_536;
+
+/// A round of one side goes over its lines until so many were read.
+const LINES_A_ROUND: usize = 40_000;
+
+pub fn run() -> Result<(), Box<dyn Error>> {
+    let rounds = rounds()?;
+    let lines: Vec<Vec<u8>> = corpus_lines()?
+        .into_iter()
+        .filter(|line| !line.is_empty())
+        .collect();
+    let of = |class: &str| -> Vec<&[u8]> {
+        lines
+            .iter()
+            .map(Vec::as_slice)
+            .filter(|line| class_of(line) == class)
+            .collect()
+    };
+
+    println!("class    lines  ours ns  whole answer ns  crate ns  ratio  floor ns");
+    let mut ratios = vec![];
+    for class in ["rmc", "gsa", "gsv", "other", "refused"] {
+        let lines = of(class);
+        let bytes: usize = lines.iter().map(|line| line.len()).sum();
+        let times = medians(
+            rounds,
+            lines.len(),
+            [
+                &mut || lines.iter().for_each(|line| drop(black_box(abi::refusal(line)))),
+                &mut || {
+                    let mut words = [0; abi::WORDS];
+                    for line in &lines {
+                        abi::answer(line, &mut words);
+                        black_box(&words);
+                    }
+                },
+                &mut || lines.iter().for_each(|line| drop(black_box(parse_bytes(line)))),
+                &mut || lines.iter().for_each(|line| drop(black_box(floor(line)))),
+            ],
+        );
+        ratios.push(told(class, lines.len(), bytes, times));
+    }
+
+    let logs = logs()?;
+    let count: usize = logs.iter().map(|log| lines_of(log).count()).sum();
+    let bytes: usize = logs.iter().map(|log| log.len()).sum();
+    let times = medians(
+        rounds,
+        count,
+        [
+            &mut || logs.iter().for_each(|log| drop(black_box(walk(log)))),
+            &mut || {},
+            &mut || logs.iter().for_each(|log| drop(black_box(crate_walk(log)))),
+            &mut || logs.iter().for_each(|log| drop(black_box(floor(log)))),
+        ],
+    );
+    ratios.push(told("walk", count, bytes, times));
+
+    println!("\nlog of    ours ns a byte");
+    for kib in [1, 8, 64] {
+        let log = log_of(&logs, kib * 1024);
+        let [ours, ..] = medians(
+            rounds,
+            lines_of(&log).count(),
+            [
+                &mut || drop(black_box(walk(&log))),
+                &mut || {},
+                &mut || {},
+                &mut || {},
+            ],
+        );
+        let lines = lines_of(&log).count() as f64;
+        println!("{kib:>3} KiB   {:>6.2}", ours * lines / log.len() as f64);
+    }
+
+    println!("\nratios {}", ratios.join(" "));
+    Ok(())
+}
+
+/// How many rounds are measured.
+fn rounds() -> Result<usize, String> {
+    const USAGE: &str = "usage: bench [--rounds N], N at least 1";
+    let words: Vec<String> = env::args().skip(1).collect();
+    match words.iter().map(String::as_str).collect::<Vec<_>>()[..] {
+        [] => Ok(15),
+        ["--rounds", number] => match number.parse() {
+            Ok(rounds) if rounds > 0 => Ok(rounds),
+            _ => Err(USAGE.into()),
+        },
+        _ => Err(USAGE.into()),
+    }
+}
+
+/// Prints a class's times and answers its ratio.
+fn told(class: &str, lines: usize, bytes: usize, [ours, whole, theirs, floor]: [f64; 4]) -> String {
+    let ratio = theirs / ours;
+    let whole = if whole > 1.0 { format!("{whole:.0}") } else { "-".into() };
+    println!(
+        "{class:<8} {lines:>5}  {ours:>7.0}  {whole:>15}  {theirs:>8.0}  {ratio:>5.2}  {floor:>8.0}   ({:.0} bytes a line)",
+        bytes as f64 / lines as f64
+    );
+    format!("{class}={ratio:.2}")
+}
+
+/// The median nanoseconds a line of each side; in a round each side has its turn.
+fn medians<const N: usize>(rounds: usize, lines: usize, mut sides: [&mut dyn FnMut(); N]) -> [f64; N] {
+    let times = LINES_A_ROUND.div_ceil(lines);
+    let mut taken: [Vec<f64>; N] = std::array::from_fn(|_| vec![]);
+    // one round more than is counted, for caches and the processor's clock
+    for round in 0..=rounds {
+        for (side, taken) in sides.iter_mut().zip(&mut taken) {
+            let start = Instant::now();
+            for _ in 0..times {
+                side();
+            }
+            if round > 0 {
+                taken.push(start.elapsed().as_nanos() as f64 / (times * lines) as f64);
+            }
+        }
+    }
+    taken.map(|mut taken| {
+        taken.sort_by(f64::total_cmp);
+        taken[taken.len() / 2]
+    })
+}
+
+/// The class of a line, by our answer.
+fn class_of(line: &[u8]) -> &'static str {
+    let mut words = [0; abi::WORDS];
+    abi::answer(line, &mut words);
+    match words[0] {
+        1 => "rmc",
+        2 => "gsa",
+        3 => "gsv",
+        4 => "other",
+        _ => "refused",
+    }
+}
+
+/// One pass that finds the line feeds and XORs: nothing that checks sums can be faster.
+fn floor(bytes: &[u8]) -> (usize, u8) {
+    let (mut lines, mut sum) = (0, 0);
+    for &byte in bytes {
+        lines += usize::from(byte == b'\n');
+        sum ^= byte;
+    }
+    (lines, sum)
+}
+
+fn lines_of(log: &[u8]) -> impl Iterator<Item = &[u8]> {
+    log.split_inclusive(|&byte| byte == b'\n').map(|line| {
+        let line = line.strip_suffix(b"\n").unwrap_or(line);
+        line.strip_suffix(b"\r").unwrap_or(line)
+    })
+}
+
+fn walk(log: &[u8]) -> [u64; abi::TOTALS] {
+    let mut totals = [0; abi::TOTALS];
+    assert_eq!(abi::walk(log, &mut totals), 0, "the walk refused a log");
+    totals
+}
+
+/// The same with the crate: every line read, the groups stored.
+fn crate_walk(log: &[u8]) -> ([u64; 4], Gatherer) {
+    let mut gatherer = Gatherer::default();
+    let [mut lines, mut blank, mut accepted, mut refused] = [0; 4];
+    for line in lines_of(log) {
+        lines += 1;
+        if line.is_empty() {
+            blank += 1;
+            continue;
+        }
+        match parse_bytes(line) {
+            Ok(ParseResult::GSV(data)) => {
+                accepted += 1;
+                gatherer.put(data);
+            }
+            Ok(_) => accepted += 1,
+            Err(_) => refused += 1,
+        }
+    }
+    ([lines, blank, accepted, refused], gatherer)
+}
+
+/// The logs, cut behind line feeds where one is too long for a walk.
+fn logs() -> Result<Vec<Vec<u8>>, Box<dyn Error>> {
+    let mut pieces = vec![];
+    for log in corpus_logs()? {
+        let mut rest = &log[..];
+        while rest.len() > LONGEST_LOG {
+            let cut = rest[..LONGEST_LOG].iter().rposition(|&byte| byte == b'\n');
+            let (piece, more) = rest.split_at(cut.map_or(LONGEST_LOG, |at| at + 1));
+            pieces.push(piece.to_vec());
+            rest = more;
+        }
+        pieces.push(rest.to_vec());
+    }
+    pieces.retain(|piece| !piece.is_empty());
+    Ok(pieces)
+}
+
+/// A log of whole lines of at most that many bytes.
+fn log_of(logs: &[Vec<u8>], most: usize) -> Vec<u8> {
+    let mut log = vec![];
+    for line in logs.iter().flat_map(|log| log.split_inclusive(|&byte| byte == b'\n')).cycle() {
+        if log.len() + line.len() > most {
+            return log;
+        }
+        log.extend_from_slice(line);
+    }
+    log
+}

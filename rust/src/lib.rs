@@ -62,3 +62,8 @@ pub use rmc::{Mode, NavigationalStatus, Rmc, Status};
 pub use sentence::{read, refusal_number, Sentence};
 pub use system::System;
 pub use time::{Date, Time};
+
+/// So that the example of the README is run.
+#[cfg(doctest)]
+#[doc = include_str!("../README.md")]
+struct Readme;

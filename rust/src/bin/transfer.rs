@@ -1,6 +1,8 @@
 //! Reads the logs named on its command line, and tells which lines are
 //! refused and what the logs have.
 
+#![forbid(unsafe_code)]
+
 use std::{
     env,
     ffi::OsString,

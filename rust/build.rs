@@ -34,10 +34,16 @@ fn library() -> Result<PathBuf, String> {
     }
     if let Some(folder) = env::var_os("NMEA_LIB") {
         let folder = PathBuf::from(folder);
-        println!("cargo:rerun-if-changed={}", folder.join("libcapi.a").display());
+        println!(
+            "cargo:rerun-if-changed={}",
+            folder.join("libcapi.a").display()
+        );
         return match folder.join("libcapi.a").is_file() {
             true => Ok(folder),
-            false => Err(format!("NMEA_LIB: there is no {}/libcapi.a", folder.display())),
+            false => Err(format!(
+                "NMEA_LIB: there is no {}/libcapi.a",
+                folder.display()
+            )),
         };
     }
 

@@ -1,6 +1,69 @@
 //! NMEA 0183 sentences and logs, read by functions that are proved to meet
 //! their contracts.
+//!
+//! Any bytes may be given to any function here. A line is answered with a
+//! record, with the name of a known type that is not read, or with a numbered
+//! refusal:
+//!
+//! ```
+//! use proved_nmea::{read, Refusal, Sentence};
+//!
+//! let line = b"$GNRMC,101500.25,A,5130.5,N,00006.0,W,4.5,270.0,290224,,,A*5F";
+//! let Sentence::Rmc(fix) = read(line)? else { panic!("it is an RMC sentence") };
+//! let position = fix.position.expect("it has a position");
+//! // Exact, in billionths of a minute; and as a float, in degrees.
+//! assert_eq!(position.longitude.billionths, -6_000_000_000);
+//! assert_eq!(position.longitude.degrees, -0.1);
+//! assert_eq!(fix.speed.expect("it has a speed").to_string(), "4.5");
+//!
+//! let refusal = read(b"$GPGSA,A,1,,,,*33").unwrap_err();
+//! assert_eq!(refusal, Refusal::Checksum { calculated: 0x32, found: 0x33 });
+//! assert_eq!(refusal.number(), 6);
+//! # Ok::<(), Refusal>(())
+//! ```
+//!
+//! A small log is counted whole by [`walk`], which is proved. One of any size
+//! is counted line by line by a [`Tally`], which gathers satellite groups by
+//! the same rules in plain Rust and is tested against [`walk`]; the program
+//! `transfer` is made of it.
+//!
+//! What is read, and how, is in the repository's `docs/01-scope.md`, the
+//! refusals and letters in `docs/LISTS.md`.
 
 #![deny(unsafe_code)]
+#![warn(missing_docs)]
+
+#[macro_use]
+mod letters;
 
 pub mod abi;
+mod coordinate;
+mod decimal;
+mod groups;
+mod gsa;
+mod gsv;
+mod log;
+mod refusal;
+mod rmc;
+mod sentence;
+mod system;
+mod time;
+mod words;
+
+pub use coordinate::{Coordinate, Hemisphere, Position};
+pub use decimal::Decimal;
+pub use groups::{Gatherer, Group};
+pub use gsa::{Dops, Fix, Gsa, Selection};
+pub use gsv::{Entry, Gsv};
+pub use letters::{Letters, Talker, TypeName};
+pub use log::{walk, Tally, Totals};
+pub use refusal::Refusal;
+pub use rmc::{Mode, NavigationalStatus, Rmc, Status};
+pub use sentence::{read, refusal_number, Sentence};
+pub use system::System;
+pub use time::{Date, Time};
+
+/// So that the example of the README is run.
+#[cfg(doctest)]
+#[doc = include_str!("../README.md")]
+struct Readme;

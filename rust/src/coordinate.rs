@@ -1,0 +1,57 @@
+use crate::words::{Unfit, Words};
+
+letters! {
+    /// The half of the earth that a coordinate lies in.
+    Hemisphere {
+        /// Latitudes from the equator up.
+        North = b'N',
+        /// Latitudes from the equator down, which are negative.
+        South = b'S',
+        /// Longitudes east of Greenwich.
+        East = b'E',
+        /// Longitudes west of Greenwich, which are negative.
+        West = b'W',
+    }
+}
+
+/// A latitude or a longitude: exactly, and as a float. The sentence sets no
+/// range beyond its digits: a latitude of 99 degrees is read.
+#[derive(Clone, Copy, Debug, PartialEq)]
+pub struct Coordinate {
+    /// Billionths of a minute of arc, degrees included; below zero to the south and west.
+    pub billionths: i64,
+    /// The letter of the sentence.
+    pub hemisphere: Hemisphere,
+    /// Degrees; below zero, or minus zero, to the south and west.
+    pub degrees: f64,
+}
+
+/// A place on the earth.
+#[derive(Clone, Copy, Debug, PartialEq)]
+pub struct Position {
+    /// North or south of the equator.
+    pub latitude: Coordinate,
+    /// East or west of Greenwich.
+    pub longitude: Coordinate,
+}
+
+impl Coordinate {
+    pub(crate) fn of(words: &Words, at: usize) -> Result<Self, Unfit> {
+        let minus = words.flag(at)?;
+        let size: i64 = words.number(at + 1)?;
+        Ok(Coordinate {
+            billionths: if minus { -size } else { size },
+            hemisphere: Hemisphere::of(words, at + 2)?,
+            degrees: f64::from_bits(words.word(at + 3)?),
+        })
+    }
+}
+
+impl Position {
+    pub(crate) fn of(words: &Words, at: usize) -> Result<Self, Unfit> {
+        Ok(Position {
+            latitude: Coordinate::of(words, at)?,
+            longitude: Coordinate::of(words, at + 4)?,
+        })
+    }
+}

@@ -1,0 +1,44 @@
+use std::fmt;
+
+use crate::words::{Unfit, Words};
+
+/// A decimal of at most 7 digits: exactly, and as the nearest float.
+#[derive(Clone, Copy, Debug, PartialEq)]
+pub struct Decimal {
+    /// Its digits as a whole number: 45 for `4.5`.
+    pub whole: i32,
+    /// How many of the digits stand after the point: 1 for `4.5`.
+    pub decimals: u8,
+    /// The whole number divided once by the power of ten. A variation of zero
+    /// to the west is minus zero, which only this tells.
+    pub value: f32,
+}
+
+impl Decimal {
+    pub(crate) fn of(words: &Words, at: usize) -> Result<Self, Unfit> {
+        let minus = words.flag(at)?;
+        let size: i32 = words.number(at + 1)?;
+        Ok(Decimal {
+            whole: if minus { -size } else { size },
+            decimals: words.number(at + 2)?,
+            value: f32::from_bits(words.number(at + 3)?),
+        })
+    }
+}
+
+/// The exact decimal, as in `4.5`, `270.0` or `-0`.
+impl fmt::Display for Decimal {
+    fn fmt(&self, f: &mut fmt::Formatter) -> fmt::Result {
+        let decimals = usize::from(self.decimals);
+        // At least one digit before the point.
+        let digits = format!("{:0>1$}", self.whole.unsigned_abs(), decimals + 1);
+        let (before, after) = digits.split_at(digits.len() - decimals);
+        let sign = if self.value.is_sign_negative() {
+            "-"
+        } else {
+            ""
+        };
+        let point = if after.is_empty() { "" } else { "." };
+        write!(f, "{sign}{before}{point}{after}")
+    }
+}

@@ -1,0 +1,103 @@
+use crate::{
+    words::{Unfit, Words},
+    Date, Decimal, Position, Time,
+};
+
+letters! {
+    /// Whether the fix of an RMC sentence holds.
+    Status {
+        /// A fix by the receiver alone.
+        Autonomous = b'A',
+        /// A fix with corrections from elsewhere.
+        Differential = b'D',
+        /// No valid fix.
+        NotValid = b'V',
+    }
+}
+
+letters! {
+    /// How the fix of an RMC sentence was made.
+    Mode {
+        /// By the receiver alone.
+        Autonomous = b'A',
+        /// Caution, a quirk of Quectel's.
+        Caution = b'C',
+        /// With corrections from elsewhere.
+        Differential = b'D',
+        /// Estimated, by dead reckoning.
+        Estimated = b'E',
+        /// RTK, float.
+        FloatRtk = b'F',
+        /// Put in by hand.
+        Manual = b'M',
+        /// Data not valid.
+        NotValid = b'N',
+        /// Precise, from NMEA 4.00 on.
+        Precise = b'P',
+        /// RTK, fixed.
+        FixedRtk = b'R',
+        /// Simulated.
+        Simulated = b'S',
+        /// Unsafe, a quirk of Quectel's.
+        Unsafe = b'U',
+    }
+}
+
+letters! {
+    /// The navigational status of an RMC sentence.
+    NavigationalStatus {
+        /// Autonomous.
+        Autonomous = b'A',
+        /// Differential.
+        Differential = b'D',
+        /// Estimated.
+        Estimated = b'E',
+        /// Manual.
+        Manual = b'M',
+        /// Not valid.
+        NotValid = b'N',
+        /// Simulator.
+        Simulator = b'S',
+        /// Valid.
+        Valid = b'V',
+    }
+}
+
+/// An RMC sentence: when, where, and which way.
+#[derive(Clone, Copy, Debug, PartialEq)]
+pub struct Rmc {
+    /// When the fix was made.
+    pub time: Option<Time>,
+    /// Whether it holds.
+    pub status: Status,
+    /// Where the receiver is.
+    pub position: Option<Position>,
+    /// Speed over ground, in knots.
+    pub speed: Option<Decimal>,
+    /// Course over ground, in degrees.
+    pub course: Option<Decimal>,
+    /// The day of the fix.
+    pub date: Option<Date>,
+    /// Magnetic variation, in degrees; below zero, or minus zero, to the west.
+    pub variation: Option<Decimal>,
+    /// How the fix was made.
+    pub mode: Option<Mode>,
+    /// The navigational status.
+    pub navigational_status: Option<NavigationalStatus>,
+}
+
+impl Rmc {
+    pub(crate) fn of(words: &Words) -> Result<Self, Unfit> {
+        Ok(Rmc {
+            time: words.part(1, Time::of)?,
+            status: Status::of(words, 6)?,
+            position: words.part(7, Position::of)?,
+            speed: words.part(16, Decimal::of)?,
+            course: words.part(21, Decimal::of)?,
+            date: words.part(26, Date::of)?,
+            variation: words.part(30, Decimal::of)?,
+            mode: words.unless_zero(35, Mode::of)?,
+            navigational_status: words.unless_zero(36, NavigationalStatus::of)?,
+        })
+    }
+}

@@ -1,0 +1,68 @@
+use std::fmt;
+
+use crate::words::{Unfit, Words};
+
+/// A time of the day, UTC.
+#[derive(Clone, Copy, Debug, PartialEq, Eq, PartialOrd, Ord, Hash)]
+pub struct Time {
+    /// 0 to 23.
+    pub hour: u8,
+    /// 0 to 59.
+    pub minute: u8,
+    /// 0 to 59.
+    pub second: u8,
+    /// Below 1,000,000,000.
+    pub nanosecond: u32,
+}
+
+/// A day of the Gregorian calendar.
+#[derive(Clone, Copy, Debug, PartialEq, Eq, PartialOrd, Ord, Hash)]
+pub struct Date {
+    /// 1983 to 2082.
+    pub year: u16,
+    /// 1 to 12.
+    pub month: u8,
+    /// 1 to the last that the month has.
+    pub day: u8,
+}
+
+impl Time {
+    pub(crate) fn of(words: &Words, at: usize) -> Result<Self, Unfit> {
+        Ok(Time {
+            hour: words.number(at)?,
+            minute: words.number(at + 1)?,
+            second: words.number(at + 2)?,
+            nanosecond: words.number(at + 3)?,
+        })
+    }
+}
+
+impl Date {
+    pub(crate) fn of(words: &Words, at: usize) -> Result<Self, Unfit> {
+        Ok(Date {
+            year: words.number(at)?,
+            month: words.number(at + 1)?,
+            day: words.number(at + 2)?,
+        })
+    }
+}
+
+/// As ISO 8601 writes it, with all nine decimals.
+impl fmt::Display for Time {
+    fn fmt(&self, f: &mut fmt::Formatter) -> fmt::Result {
+        let Time {
+            hour,
+            minute,
+            second,
+            nanosecond,
+        } = self;
+        write!(f, "{hour:02}:{minute:02}:{second:02}.{nanosecond:09}")
+    }
+}
+
+/// As ISO 8601 writes it.
+impl fmt::Display for Date {
+    fn fmt(&self, f: &mut fmt::Formatter) -> fmt::Result {
+        write!(f, "{:04}-{:02}-{:02}", self.year, self.month, self.day)
+    }
+}

@@ -1,0 +1,424 @@
+//! The worked sentences and the easy errors of 01, with every field of each
+//! record. What is expected is written from 01's words.
+
+mod common;
+
+use common::{gsa, gsv, rmc, with_checksum, GSV_1, GSV_2, GSV_3};
+use proved_nmea::{
+    read, Coordinate, Date, Decimal, Dops, Entry, Fix, Gsa, Gsv, Hemisphere, Letters, Mode,
+    NavigationalStatus, Position, Refusal, Rmc, Selection, Sentence, Status, System, Time,
+};
+
+const RMC: &str = "$GNRMC,101500.25,A,5130.5,N,00006.0,W,4.5,270.0,290224,,,A*5F";
+
+/// A short decimal: the float is the whole number divided once by the power of ten.
+fn short(whole: i32, decimals: u8) -> Decimal {
+    let power = 10_i32.pow(decimals.into());
+    Decimal {
+        whole,
+        decimals,
+        value: whole as f32 / power as f32,
+    }
+}
+
+fn dops(pdop: Decimal, hdop: Decimal, vdop: Decimal) -> Option<Dops> {
+    Some(Dops { pdop, hdop, vdop })
+}
+
+/// A coordinate from its count: minutes as one division, then divided by 60,
+/// added to the degrees, negated for S or W.
+fn coordinate(billionths: i64, degrees: u8, hemisphere: Hemisphere) -> Coordinate {
+    let minutes = (billionths.abs() - i64::from(degrees) * 60_000_000_000) as f64 / 1e9;
+    let size = f64::from(degrees) + minutes / 60.;
+    let minus = matches!(hemisphere, Hemisphere::South | Hemisphere::West);
+    Coordinate {
+        billionths,
+        hemisphere,
+        degrees: if minus { -size } else { size },
+    }
+}
+
+fn entry(satellite: u32, elevation: u32, azimuth: u32, signal: u32) -> Option<Entry> {
+    Some(Entry {
+        satellite,
+        elevation: Some(elevation),
+        azimuth: Some(azimuth),
+        signal: Some(signal),
+    })
+}
+
+/// An RMC record with a status and nothing else.
+fn bare_rmc(status: Status) -> Rmc {
+    Rmc {
+        time: None,
+        status,
+        position: None,
+        speed: None,
+        course: None,
+        date: None,
+        variation: None,
+        mode: None,
+        navigational_status: None,
+    }
+}
+
+// Worked sentences
+
+#[test]
+fn gsv_of_three_lines() {
+    let expected = |number, entries| Gsv {
+        talker: Letters(*b"GP"),
+        system: System::Gps,
+        sentences: 3,
+        number,
+        in_view: 11,
+        entries,
+    };
+    let first = [
+        entry(3, 3, 111, 0),
+        entry(4, 15, 270, 0),
+        entry(6, 1, 10, 0),
+        entry(13, 6, 292, 0),
+    ];
+    let second = [
+        entry(14, 25, 170, 0),
+        entry(16, 57, 208, 39),
+        entry(18, 67, 296, 40),
+        entry(19, 40, 246, 0),
+    ];
+    let third = [
+        entry(22, 42, 67, 42),
+        entry(24, 14, 311, 43),
+        entry(27, 5, 244, 0),
+        None,
+    ];
+    assert_eq!(gsv(GSV_1), expected(1, first));
+    assert_eq!(gsv(GSV_2), expected(2, second));
+    assert_eq!(gsv(GSV_3), expected(3, third));
+    assert_eq!(gsv(GSV_3).satellites().count(), 3);
+}
+
+#[test]
+fn gsa_with_four_satellites() {
+    let expected = Gsa {
+        talker: Letters(*b"GP"),
+        selection: Selection::Automatic,
+        fix: Fix::ThreeDimensions,
+        system: Some(System::Gps),
+        dops: dops(short(36, 1), short(21, 1), short(22, 1)),
+        satellites: vec![16, 18, 22, 24],
+    };
+    assert_eq!(
+        gsa("$GPGSA,A,3,,,,,,16,18,,22,24,,,3.6,2.1,2.2*3C"),
+        expected
+    );
+}
+
+#[test]
+fn gsa_without_satellites() {
+    let expected = Gsa {
+        talker: Letters(*b"GP"),
+        selection: Selection::Automatic,
+        fix: Fix::None,
+        system: Some(System::Gps),
+        dops: None,
+        satellites: vec![],
+    };
+    assert_eq!(gsa("$GPGSA,A,1,,,,*32"), expected);
+}
+
+#[test]
+fn rmc_worked() {
+    let expected = Rmc {
+        time: Some(Time {
+            hour: 10,
+            minute: 15,
+            second: 0,
+            nanosecond: 250_000_000,
+        }),
+        position: Some(Position {
+            latitude: coordinate(3_090_500_000_000, 51, Hemisphere::North),
+            longitude: coordinate(-6_000_000_000, 0, Hemisphere::West),
+        }),
+        speed: Some(short(45, 1)),
+        course: Some(short(2700, 1)),
+        date: Some(Date {
+            year: 2024,
+            month: 2,
+            day: 29,
+        }),
+        mode: Some(Mode::Autonomous),
+        ..bare_rmc(Status::Autonomous)
+    };
+    assert_eq!(rmc(RMC), expected);
+}
+
+#[test]
+fn records_as_text() {
+    let record = rmc(RMC);
+    assert_eq!(record.time.unwrap().to_string(), "10:15:00.250000000");
+    assert_eq!(record.date.unwrap().to_string(), "2024-02-29");
+    assert_eq!(record.speed.unwrap().to_string(), "4.5");
+    assert_eq!(record.course.unwrap().to_string(), "270.0");
+    assert_eq!(record.mode.unwrap().letter(), 'A');
+    let position = record.position.unwrap();
+    assert_eq!(position.latitude.hemisphere.letter(), 'N');
+    assert_eq!(position.longitude.hemisphere.letter(), 'W');
+    assert_eq!(gsv(GSV_1).talker.to_string(), "GP");
+    assert_eq!(
+        System::ALL.map(|system| system.to_string()).join(" "),
+        "GPS GLONASS Galileo BeiDou NavIC QZSS"
+    );
+}
+
+// Easy errors
+
+#[test]
+fn elevation_with_a_sign() {
+    let line = with_checksum("GPGSV,1,1,03,01,40,083,46,02,-5,308,41,12,07,344,39");
+    assert_eq!(gsv(&line).entries, [entry(1, 40, 83, 46), None, None, None]);
+}
+
+#[test]
+fn entry_without_its_last_comma() {
+    let line = with_checksum("GLGSV,3,3,09,88,07,028");
+    let expected = Gsv {
+        talker: Letters(*b"GL"),
+        system: System::Glonass,
+        sentences: 3,
+        number: 3,
+        in_view: 9,
+        entries: [None; 4],
+    };
+    assert_eq!(gsv(&line), expected);
+
+    // With its last comma the signal alone is missing.
+    let line = with_checksum("GLGSV,3,3,09,88,07,028,");
+    let expected = Entry {
+        signal: None,
+        ..entry(88, 7, 28, 0).unwrap()
+    };
+    assert_eq!(gsv(&line).entries, [Some(expected), None, None, None]);
+}
+
+#[test]
+fn whole_number_pdop_is_an_item() {
+    let line = with_checksum("GPGSA,A,3,16,18,3,2.1,2.2");
+    assert_eq!(read(line.as_bytes()), Err(Refusal::Syntax));
+
+    let line = with_checksum("GPGSA,M,2,16,18,3,2.1,2,1");
+    let expected = Gsa {
+        talker: Letters(*b"GP"),
+        selection: Selection::Manual,
+        fix: Fix::TwoDimensions,
+        system: Some(System::Gps),
+        dops: dops(short(21, 1), short(2, 0), short(1, 0)),
+        satellites: vec![16, 18, 3],
+    };
+    assert_eq!(gsa(&line), expected);
+}
+
+#[test]
+fn gsa_tail_of_whole_numbers() {
+    // The items eat `3,` and `2,`, so that two of the three decimals are missing.
+    let line = with_checksum("GPGSA,A,3,16,18,,22,24,3,2,1");
+    assert_eq!(read(line.as_bytes()), Err(Refusal::Syntax));
+}
+
+#[test]
+fn items_after_the_eighteenth_are_dropped() {
+    let items = |last: u32| (1..=last).map(|n| format!("{n},")).collect::<String>();
+    for last in [18, 19, 20] {
+        let line = with_checksum(&format!("GPGSA,A,3,{}3.6,2.1,2.2", items(last)));
+        assert_eq!(gsa(&line).satellites, (1..=18).collect::<Vec<u32>>());
+    }
+    // An empty item is one of the eighteen, though it is not kept.
+    let line = with_checksum(&format!("GPGSA,A,3,,{}3.6,2.1,2.2", items(18)));
+    assert_eq!(gsa(&line).satellites, (1..=17).collect::<Vec<u32>>());
+}
+
+// Cases that the rules give in passing
+
+#[test]
+fn gsa_systems() {
+    let system = |body: &str| gsa(&with_checksum(body)).system;
+    assert_eq!(system("GNGSA,A,1,,,,"), None);
+    assert_eq!(system("GNGSA,A,1,,,,1"), Some(System::Gps));
+    assert_eq!(system("GNGSA,A,1,,,,2"), Some(System::Glonass));
+    assert_eq!(system("GNGSA,A,1,,,,3"), Some(System::Galileo));
+    assert_eq!(system("GNGSA,A,1,,,,4"), Some(System::BeiDou));
+    assert_eq!(system("GNGSA,A,1,,,,5"), None);
+    assert_eq!(system("GAGSA,A,1,,,,5"), Some(System::Galileo));
+    assert_eq!(system("BDGSA,A,1,,,,"), Some(System::BeiDou));
+    assert_eq!(system("GBGSA,A,1,,,,4"), Some(System::BeiDou));
+    assert_eq!(system("GQGSA,A,1,,,,"), None);
+}
+
+#[test]
+fn gsv_systems() {
+    let table = [
+        ("GP", System::Gps),
+        ("GL", System::Glonass),
+        ("GA", System::Galileo),
+        ("BD", System::BeiDou),
+        ("GB", System::BeiDou),
+        ("GI", System::NavIc),
+        ("GQ", System::Qzss),
+        ("PQ", System::Qzss),
+        ("QZ", System::Qzss),
+    ];
+    for (talker, system) in table {
+        let record = gsv(&with_checksum(&format!("{talker}GSV,1,1,00,")));
+        assert_eq!(record.system, system);
+        assert_eq!(record.talker.to_string(), talker);
+    }
+}
+
+#[test]
+fn largest_numbers() {
+    let line = with_checksum("GPGSV,65535,65535,65535,4294967295,2147483647,2147483647,2147483647");
+    let most = 2_147_483_647;
+    let expected = Gsv {
+        talker: Letters(*b"GP"),
+        system: System::Gps,
+        sentences: 65_535,
+        number: 65_535,
+        in_view: 65_535,
+        entries: [entry(4_294_967_295, most, most, most), None, None, None],
+    };
+    assert_eq!(gsv(&line), expected);
+    let line = with_checksum("GNGSA,A,3,4294967295,9999999.,1,1");
+    assert_eq!(read(line.as_bytes()), Err(Refusal::Number));
+    let line = with_checksum("GNGSA,A,3,4294967295,0.000001,9999999,999999.9");
+    let record = gsa(&line);
+    assert_eq!(record.satellites, [4_294_967_295]);
+    assert_eq!(
+        record.dops,
+        dops(short(1, 6), short(9_999_999, 0), short(9_999_999, 1))
+    );
+    assert_eq!(record.dops.unwrap().pdop.to_string(), "0.000001");
+
+    let line = with_checksum("GNRMC,235959.999999999,D,99999.999999999,S,255999.999999999,W,,,,,");
+    let expected = Rmc {
+        time: Some(Time {
+            hour: 23,
+            minute: 59,
+            second: 59,
+            nanosecond: 999_999_999,
+        }),
+        position: Some(Position {
+            latitude: coordinate(-6_939_999_999_999, 99, Hemisphere::South),
+            longitude: coordinate(-16_299_999_999_999, 255, Hemisphere::West),
+        }),
+        ..bare_rmc(Status::Differential)
+    };
+    assert_eq!(rmc(&line), expected);
+}
+
+#[test]
+fn two_byte_numbers_with_a_plus() {
+    let line = with_checksum("GPRMC,+5+607,A,+12,N,+123,E,,,+1+2+3,,");
+    let expected = Rmc {
+        time: Some(Time {
+            hour: 5,
+            minute: 6,
+            second: 7,
+            nanosecond: 0,
+        }),
+        position: Some(Position {
+            latitude: coordinate(62_000_000_000, 1, Hemisphere::North),
+            longitude: coordinate(723_000_000_000, 12, Hemisphere::East),
+        }),
+        date: Some(Date {
+            year: 2003,
+            month: 2,
+            day: 1,
+        }),
+        ..bare_rmc(Status::Autonomous)
+    };
+    assert_eq!(rmc(&line), expected);
+}
+
+#[test]
+fn variation() {
+    let variation = |tail: &str| {
+        let record = rmc(&with_checksum(&format!("GPRMC,,A,,,,,,,,{tail}")));
+        let decimal = record.variation.expect("a variation");
+        (decimal.to_string(), decimal.whole, decimal.value.to_bits())
+    };
+    assert_eq!(
+        variation("020.3,E"),
+        ("20.3".into(), 203, 20.3f32.to_bits())
+    );
+    assert_eq!(
+        variation("020.3,W"),
+        ("-20.3".into(), -203, (-20.3f32).to_bits())
+    );
+    // Zero to the west is minus zero.
+    assert_eq!(variation("0,E"), ("0".into(), 0, 0));
+    assert_eq!(variation("0,W"), ("-0".into(), 0, 0x8000_0000));
+}
+
+#[test]
+fn lone_variation_letter() {
+    // The comma at once means no variation; no comma follows, so `E,A` is the rest.
+    let line = with_checksum("GPRMC,,V,,,,,,,,,E,A");
+    assert_eq!(rmc(&line), bare_rmc(Status::NotValid));
+}
+
+#[test]
+fn zero_to_the_south_and_west_is_minus_zero() {
+    let line = with_checksum("GPRMC,,A,000,S,0000,W,,,,,");
+    let position = rmc(&line).position.unwrap();
+    for coordinate in [position.latitude, position.longitude] {
+        assert_eq!(coordinate.billionths, 0);
+        assert_eq!(coordinate.degrees.to_bits(), (-0.0f64).to_bits());
+    }
+}
+
+#[test]
+fn letters_of_rmc() {
+    let letters = |tail: &str| {
+        let record = rmc(&with_checksum(&format!("GPRMC,,A,,,,,,,,,{tail}")));
+        let mode = record.mode.map(Mode::letter);
+        let status = record.navigational_status.map(NavigationalStatus::letter);
+        (mode, status)
+    };
+    for letter in "ACDEFMNPRSU".chars() {
+        assert_eq!(letters(&format!(",{letter}")), (Some(letter), None));
+    }
+    for letter in "ADEMNSV".chars() {
+        assert_eq!(letters(&format!(",,{letter}")), (None, Some(letter)));
+    }
+    // An unknown letter is not eaten.
+    assert_eq!(letters(",X,S"), (None, None));
+    assert_eq!(letters(",D,X"), (Some('D'), None));
+    for status in "ADV".chars() {
+        let line = with_checksum(&format!("GPRMC,,{status},,,,,,,,,"));
+        assert_eq!(rmc(&line).status.letter(), status);
+    }
+}
+
+#[test]
+fn types_that_are_not_read_are_other() {
+    let others = "AAM ALM APA BOD BWC BWW DBK DBS DPT GBS GGA GLL GNS GST HDT MDA MTW MWV RMZ \
+                  TTM TXT VHW VTG WNC ZDA ZFO ZTG";
+    assert_eq!(others.split_whitespace().count(), 27);
+    for name in others.split_whitespace() {
+        match read(with_checksum(&format!("GP{name},")).as_bytes()) {
+            Ok(Sentence::Other(found)) => assert_eq!(found.to_string(), name),
+            other => panic!("{name} is {other:?}"),
+        }
+    }
+}
+
+#[test]
+fn checksum_bytes() {
+    // `+A` reads as 10, `-` is no digit, and a digit is read in either case.
+    let text = Ok(Sentence::Other(Letters(*b"TXT")));
+    assert_eq!(with_checksum("GPTXT,i"), "$GPTXT,i*0A");
+    assert_eq!(read(b"$GPTXT,i*0A"), text);
+    assert_eq!(read(b"$GPTXT,i*0a"), text);
+    assert_eq!(read(b"$GPTXT,i*+A"), text);
+    assert_eq!(read(b"$GPTXT,i*-A"), Err(Refusal::Syntax));
+}

@@ -1,4 +1,5 @@
 pub mod Places
+pub mod Blocks
 pub mod AtPlace
 pub mod Adds
 pub mod OneStep

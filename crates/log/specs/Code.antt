@@ -7,7 +7,8 @@ use mathlib.Core.Option.{Option, none, some}
 use lib.ListN.{length, take, drop}
 use Rattle.gsa.specs.Answer.{row}
 use Rattle.sentence.specs.Sentence.{isRmc, isGsa, isGsv, isOther, isRefused, GsvSentence}
-use Rattle.lines.specs.Places.{lineAt}
+use Rattle.text.specs.Bytes.{byte}
+use Rattle.lines.specs.Places.{lineAt, stretch}
 use Rattle.groups.specs.Step.{Open, Out, sofar, step}
 use Rattle.gsv.specs.Gsv.{Satellite}
 use Rattle.rows.specs.Line.{lineOf}
@@ -29,6 +30,14 @@ pub record CutAt (log : List ℕ) (p r : ℕ) : Type 0 where
   pub after : p ≤ r
   pub within : r ≤ length log
   pub line : lineAt log p ≡ take (r - p) (drop p log)
+
+-- none was seen only where none is
+abbrev pub Saw : Bool → ℕ → Bool → Type 0
+Saw feed b r = r ≡ false → (feed ≡ false) × (b ≡ byte "\n" → ⊥)
+
+-- and then the line goes on behind these n bytes
+abbrev pub Clear : List ℕ → ℕ → ℕ → Bool → Type 0
+Clear log p n r = r ≡ false → length (stretch (drop p log)) ≡ n + length (stretch (drop (p + n) log))
 
 abbrev pub idleOf : Stepped → Gatherer → StepAnswer
 idleOf s g = record { stepped = s; satellites = row []; count = 0; handed = Nothing; group = noGroup; gatherer = g }

@@ -6,7 +6,7 @@ ghost use lib.ListN.{length, drop};
 ghost use Rattle.lines.specs.Places.{isPlace, stretch};
 ghost use Rattle.log.specs.Line.{gsvOf};
 ghost use Rattle.log.specs.Answer.{saidIn, foundIn, SaysHere};
-ghost use Rattle.log.specs.Code.{CutAt};
+ghost use Rattle.log.specs.Code.{CutAt, Saw, Clear};
 use sentence::GsvRecord;
 use sentence::Record;
 
@@ -32,11 +32,55 @@ pub fn is_place(log: &[u8], place: usize) -> bool
     log[place - 1] == b'\n'
 }
 
+// How many bytes are looked at in one go.
+const BLOCK: usize = 16;
+
+// Whether a line feed was seen, with one byte more.
+fn saw(feed: bool, b: u8) -> bool
+    ensures { λ r. ⌜ Saw feed b r ⌝ }
+{
+    if b == b'\n' {
+        return true;
+    }
+    feed
+}
+
+// Whether a line feed stands among the next bytes. It stops at none, so that it is compiled to look at all at once.
+fn feeds(log: &[u8], at: usize) -> bool
+    requires { ⌜ at + 16 ≤ length (now log) ⌝ }
+    ensures { λ r. ⌜ Clear (now (log .entry)) at 16 r ⌝ }
+{
+    let mut feed = false;
+    let mut j = 0;
+    while j < BLOCK {
+        feed = saw(feed, log[at + j]);
+        j += 1;
+    }
+    feed
+}
+
+// A place from `at` on, behind no line feed that stands there.
+fn skip(log: &[u8], at: usize) -> usize
+    ensures { λ r. ⌜ at + length (stretch (drop at (now (log .entry)))) ≡ r + length (stretch (drop r (now (log .entry)))) ⌝ }
+{
+    let mut i = at;
+    while i < log.len() {
+        if log.len() - i < BLOCK {
+            return i;
+        }
+        if feeds(log, i) {
+            return i;
+        }
+        i += BLOCK;
+    }
+    i
+}
+
 // The place of the first line feed from `at` on, or the end.
 fn line_end(log: &[u8], at: usize) -> usize
     ensures { λ r. ⌜ r ≡ at + length (stretch (drop at (now (log .entry)))) ⌝ }
 {
-    let mut i = at;
+    let mut i = skip(log, at);
     while i < log.len() {
         if log[i] == b'\n' {
             return i;

@@ -37,13 +37,7 @@ pub struct Field {
     pub at: usize,
 }
 
-fn wide(x: u8) -> u64
-    ensures { λ r. ⌜ r ≡ x ⌝ }
-{
-    x as u64
-}
-
-fn wide32(x: u32) -> u64
+fn wide(x: u32) -> u64
     ensures { λ r. ⌜ r ≡ x ⌝ }
 {
     x as u64
@@ -129,25 +123,22 @@ pub fn number(s: &[u8], at: usize, max: u32) -> Whole
     if s.len() <= at {
         return Whole::No;
     }
-    let first = s[at];
-    if first < b'0' {
+    let first = unit(s[at]);
+    if 9 < first {
         return Whole::No;
     }
-    if b'9' < first {
+    if max < first {
         return Whole::No;
     }
-    let top = wide32(max);
-    let mut value: u64 = 0;
-    let mut i = at;
+    let top = wide(max);
+    let mut value = wide(first);
+    let mut i = at + 1;
     while i < s.len() {
-        let b = s[i];
-        if b < b'0' {
+        let d = unit(s[i]);
+        if 9 < d {
             return Whole::Is(value as u32, i);
         }
-        if b'9' < b {
-            return Whole::Is(value as u32, i);
-        }
-        value = value * 10 + wide(b - b'0');
+        value = value * 10 + wide(d);
         if top < value {
             return Whole::No;
         }

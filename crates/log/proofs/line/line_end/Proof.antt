@@ -16,8 +16,11 @@ Inv-loop log at i₀ i = at + length (stretch (drop at log)) ≡ i + length (str
 abbrev μ-loop : tie.MeasureT-loop
 μ-loop log at i₀ i = length log - i
 
+skip-requires : tie.Need-skip-requires Inv-loop μ-loop
+skip-requires c κs = search needs
+
 loop-holds : tie.Need-loop-holds Inv-loop μ-loop
-loop-holds c = refl
+loop-holds c = c .skip .ensures
 
 shared-slice-read-if1 : tie.Need-shared-slice-read-if1 Inv-loop μ-loop
 shared-slice-read-if1 c = search needs
@@ -25,7 +28,7 @@ shared-slice-read-if1 c = search needs
 returns : tie.Need-returns Inv-loop μ-loop
 returns c =
     let k = c .before .before .before in
-    omega (arith, k .loop .inv, stretch-here (now (k .before .args .log)) (k .loop .i) (c .before .before .loop-test .taken) (c .if1 .taken))
+    omega (arith, k .loop .inv, stretch-here (now (k .before .before .before .args .log)) (k .loop .i) (c .before .before .loop-test .taken) (c .if1 .taken))
 
 add-i : tie.Need-add-i Inv-loop μ-loop
 add-i c = search needs
@@ -36,12 +39,12 @@ loop-less c = search needs
 loop-again : tie.Need-loop-again Inv-loop μ-loop
 loop-again c =
     let k = c .before .before .before in
-    omega (arith, k .loop .inv, stretch-more (now (k .before .args .log)) (k .loop .i) (c .before .before .loop-test .taken) (c .if1 .left))
+    omega (arith, k .loop .inv, stretch-more (now (k .before .before .before .args .log)) (k .loop .i) (c .before .before .loop-test .taken) (c .if1 .left))
 
 returns-2 : tie.Need-returns-2 Inv-loop μ-loop
 returns-2 c =
     let k = c .before in
-    omega (arith, k .loop .inv, stretch-end (now (k .before .args .log)) (k .loop .i) (c .loop-test .left))
+    omega (arith, k .loop .inv, stretch-end (now (k .before .before .before .args .log)) (k .loop .i) (c .loop-test .left))
 
 pub line-end-spec : {M : Type 1} → statement M
 line-end-spec =
@@ -49,6 +52,7 @@ line-end-spec =
     (tie.spec
     Inv-loop
     μ-loop
+    skip-requires
     loop-holds
     shared-slice-read-if1
     returns

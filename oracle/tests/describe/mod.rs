@@ -1,15 +1,25 @@
-//! Answers in the words of docs/DIFFERENCES.md.
+//! Answers in the words of docs/DIFFERENCES.md and docs/ODD-READINGS.md.
 
-use oracle::{Answer, Gsa, Refusal, Rmc};
+use oracle::{Answer, Entry, Gsa, Gsv, Refusal, Rmc};
 
 /// An answer as the document writes it.
 pub fn describe(answer: &Answer) -> String {
     match answer {
         Answer::Rmc(record) => format!("accepts: {}", describe_rmc(record)),
         Answer::Gsa(record) => format!("accepts: {}", describe_gsa(record)),
-        Answer::Gsv(record) => format!("accepts: {record:?}"),
+        Answer::Gsv(record) => format!("accepts: {}", describe_gsv(record)),
         Answer::Other(name) => format!("accepts: Other {}", name.escape_ascii()),
         Answer::Refused(refusal) => format!("refuses: {}", describe_refusal(refusal)),
+    }
+}
+
+/// The fields that are present.
+fn listed<const N: usize>(fields: [Option<String>; N]) -> String {
+    let present: Vec<String> = fields.into_iter().flatten().collect();
+    if present.is_empty() {
+        "every field that may be absent is".into()
+    } else {
+        present.join(", ")
     }
 }
 
@@ -30,12 +40,14 @@ fn describe_rmc(record: &Rmc) -> String {
         f64_field("longitude", record.longitude),
         f32_field("speed", record.speed),
         f32_field("course", record.course),
-        record.date.map(|date| format!("{date:?}")),
+        record
+            .date
+            .map(|date| format!("date {}-{:02}-{:02}", date.year, date.month, date.day)),
         f32_field("variation", record.variation),
         record.mode.map(|letter| format!("mode {letter}")),
         record.navigation.map(|letter| format!("status {letter}")),
     ];
-    fields.into_iter().flatten().collect::<Vec<_>>().join(", ")
+    listed(fields)
 }
 
 fn describe_gsa(record: &Gsa) -> String {
@@ -50,7 +62,32 @@ fn describe_gsa(record: &Gsa) -> String {
         field("VDOP", record.vdop),
         record.system.map(|system| format!("system {system:?}")),
     ];
-    fields.into_iter().flatten().collect::<Vec<_>>().join(", ")
+    listed(fields)
+}
+
+fn describe_gsv(record: &Gsv) -> String {
+    let head = format!(
+        "{:?}, {} of {}, {} in view",
+        record.system, record.number, record.sentences, record.in_view
+    );
+    let entries = record.entries.iter().flatten().map(describe_entry);
+    [head]
+        .into_iter()
+        .chain(entries)
+        .collect::<Vec<_>>()
+        .join("; ")
+}
+
+fn describe_entry(entry: &Entry) -> String {
+    let field =
+        |name, bits: Option<u32>| bits.map(|bits| format!(" {name} {}", f32::from_bits(bits)));
+    let fields = [
+        field("elevation", entry.elevation),
+        field("azimuth", entry.azimuth),
+        field("signal", entry.signal),
+    ];
+    let fields: String = fields.into_iter().flatten().collect();
+    format!("satellite {}{fields}", entry.satellite)
 }
 
 pub fn describe_refusal(refusal: &Refusal) -> String {

@@ -35,7 +35,11 @@ pub fn run() -> Result<(), Box<dyn Error>> {
             rounds,
             lines.len(),
             [
-                &mut || lines.iter().for_each(|line| drop(black_box(abi::refusal(line)))),
+                &mut || {
+                    lines
+                        .iter()
+                        .for_each(|line| drop(black_box(abi::refusal(line))))
+                },
                 &mut || {
                     let mut words = [0; abi::WORDS];
                     for line in &lines {
@@ -43,7 +47,11 @@ pub fn run() -> Result<(), Box<dyn Error>> {
                         black_box(&words);
                     }
                 },
-                &mut || lines.iter().for_each(|line| drop(black_box(parse_bytes(line)))),
+                &mut || {
+                    lines
+                        .iter()
+                        .for_each(|line| drop(black_box(parse_bytes(line))))
+                },
                 &mut || lines.iter().for_each(|line| drop(black_box(floor(line)))),
             ],
         );
@@ -103,7 +111,11 @@ fn rounds() -> Result<usize, String> {
 /// Prints a class's times and answers its ratio.
 fn told(class: &str, lines: usize, bytes: usize, [ours, whole, theirs, floor]: [f64; 4]) -> String {
     let ratio = theirs / ours;
-    let whole = if whole > 1.0 { format!("{whole:.0}") } else { "-".into() };
+    let whole = if whole > 1.0 {
+        format!("{whole:.0}")
+    } else {
+        "-".into()
+    };
     println!(
         "{class:<8} {lines:>5}  {ours:>7.0}  {whole:>15}  {theirs:>8.0}  {ratio:>5.2}  {floor:>8.0}   ({:.0} bytes a line)",
         bytes as f64 / lines as f64
@@ -112,7 +124,11 @@ fn told(class: &str, lines: usize, bytes: usize, [ours, whole, theirs, floor]: [
 }
 
 /// The median nanoseconds a line of each side; in a round each side has its turn.
-fn medians<const N: usize>(rounds: usize, lines: usize, mut sides: [&mut dyn FnMut(); N]) -> [f64; N] {
+fn medians<const N: usize>(
+    rounds: usize,
+    lines: usize,
+    mut sides: [&mut dyn FnMut(); N],
+) -> [f64; N] {
     let times = LINES_A_ROUND.div_ceil(lines);
     let mut taken: [Vec<f64>; N] = std::array::from_fn(|_| vec![]);
     // one round more than is counted, for caches and the processor's clock
@@ -211,7 +227,11 @@ fn logs() -> Result<Vec<Vec<u8>>, Box<dyn Error>> {
 /// A log of whole lines of at most that many bytes.
 fn log_of(logs: &[Vec<u8>], most: usize) -> Vec<u8> {
     let mut log = vec![];
-    for line in logs.iter().flat_map(|log| log.split_inclusive(|&byte| byte == b'\n')).cycle() {
+    for line in logs
+        .iter()
+        .flat_map(|log| log.split_inclusive(|&byte| byte == b'\n'))
+        .cycle()
+    {
         if log.len() + line.len() > most {
             return log;
         }

@@ -1,0 +1,70 @@
+//! Runs docs/ODD-READINGS.md: each row's sentence through the crate and
+//! through our reader, which must answer alike, and as the row says.
+
+mod describe;
+
+use describe::describe;
+use oracle::{answer_of, crate_answer, judge, Domain, Ours};
+
+const DOCUMENT: &str = include_str!("../../docs/ODD-READINGS.md");
+
+/// What is odd, the sentence, and what both sides answer.
+struct Row {
+    what: &'static str,
+    sentence: &'static str,
+    answer: &'static str,
+}
+
+fn rows() -> Vec<Row> {
+    DOCUMENT
+        .lines()
+        .filter(|line| line.starts_with('|'))
+        .map(|line| {
+            let cells: Vec<&str> = line.trim_matches('|').split('|').map(str::trim).collect();
+            let [what, sentence, answer] = cells[..] else {
+                panic!("not three cells: {line}")
+            };
+            Row {
+                what,
+                sentence: sentence.trim_matches('`'),
+                answer,
+            }
+        })
+        // The head of each table and the line under it.
+        .filter(|row| row.what != "what" && !row.what.starts_with('-'))
+        .collect()
+}
+
+#[test]
+fn the_document_has_rows() {
+    assert!(rows().len() >= 40, "{} rows", rows().len());
+}
+
+#[test]
+fn every_row_is_what_the_crate_answers() {
+    let wrong: Vec<String> = rows()
+        .iter()
+        .filter_map(|row| {
+            let answer = describe(&crate_answer(row.sentence.as_bytes()));
+            (answer != row.answer)
+                .then(|| format!("| {} | `{}` | {answer} |", row.what, row.sentence))
+        })
+        .collect();
+    assert!(
+        wrong.is_empty(),
+        "these rows should read\n{}",
+        wrong.join("\n")
+    );
+}
+
+#[test]
+fn we_answer_every_row_alike() {
+    let rows = rows();
+    let lines: Vec<Vec<u8>> = rows.iter().map(|row| row.sentence.into()).collect();
+    let ours = Ours::find().expect("our reader");
+    for (line, words) in lines.iter().zip(ours.answers(&lines).expect("answers")) {
+        let answer = answer_of(&words).expect("words of an answer");
+        let domain = judge(line, &answer, &crate_answer(line));
+        assert_eq!(domain, Ok(Domain::Inside), "{}", line.escape_ascii());
+    }
+}

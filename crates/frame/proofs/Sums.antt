@@ -24,10 +24,6 @@ module _ (s : List ℕ) (i to : ℕ) where
   unfolding checksumFrom
   sum-here x h k = rw (part-here h k)
 
-  pub sum-end : (x : ℕ) → length s ≤ i → checksumFrom x (slice i to s) ≡ x
+  pub sum-end : (x : ℕ) → min to (length s) ≤ i → checksumFrom x (slice i to s) ≡ x
   unfolding checksumFrom
-  sum-end x h = rw (part-over (omega arith))
-
-  pub sum-to : (x : ℕ) → to ≤ i → checksumFrom x (slice i to s) ≡ x
-  unfolding checksumFrom
-  sum-to x h = rw (part-over (omega arith))
+  sum-end x h = rw (part-over h)

@@ -15,7 +15,7 @@ module _ (s : List ℕ) (i to : ℕ) where
       let g : i < length (take to s) = simp length-take (omega arith) in
       rw (add-one, drop-cons (take to s) i 0 g, getD-take to s i 0 h)
 
-  part-over : min to (length s) ≤ i → slice i to s ≡ []
+  pub part-over : min to (length s) ≤ i → slice i to s ≡ []
   part-over h =
       let g : length (take to s) ≤ i = simp length-take (omega arith) in
       drop-of-length-le (take to s) g

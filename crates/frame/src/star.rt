@@ -39,18 +39,15 @@ fn marked(s: &[u8], from: usize, to: usize) -> u8
 pub fn star(s: &[u8], at: usize) -> Next
     ensures { λ r. ⌜ Reads (now (s .entry)) at (until (byte "*")) (part (now (s .entry)) at r) × (now (s .exit) ≡ now (s .entry)) ⌝ }
 {
-    if s.len() < 3 {
-        return text::until(s, at, b'*');
+    if 3 <= s.len() {
+        let to = s.len() - 3;
+        if at <= to {
+            if s[to] == b'*' {
+                if marked(s, at, to) == 0 {
+                    return Next::At(to);
+                }
+            }
+        }
     }
-    let to = s.len() - 3;
-    if to < at {
-        return text::until(s, at, b'*');
-    }
-    if s[to] != b'*' {
-        return text::until(s, at, b'*');
-    }
-    if marked(s, at, to) != 0 {
-        return text::until(s, at, b'*');
-    }
-    Next::At(to)
+    text::until(s, at, b'*')
 }

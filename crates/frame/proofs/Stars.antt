@@ -7,13 +7,22 @@ use mathlib.Core.List.{List, [], _∷_, _++_}
 use lib.Dec.{eqb}
 use lib.ListN.{length, take, drop, getD, length-take, take-append-drop}
 use lib.Seq.{slice, drop-append-le}
-use borrow.Author.Tests.{eqb-false}
+use borrow.Author.Tests.{eq-eqb, ne-eqb, eqb-false}
 use Rattle.text.specs.Bytes.{byte}
 use Rattle.text.specs.Reader.{got, until}
 use Rattle.text.proofs.Places.{here}
 use Rattle.frame.specs.Star.{mark, marked}
 use Rattle.frame.proofs.Sums.{part-here, part-over}
 use Rattle.frame.proofs.Until.{Clear, none, more, until-back}
+
+module _ (f b : ℕ) where
+  pub at-star : b ≡ byte "*" → 1 ≡ mark f b
+  unfolding mark
+  at-star e = rw (eq-eqb b (byte "*") e)
+
+  pub no-star : (b ≡ byte "*" → ⊥) → f ≡ mark f b
+  unfolding mark
+  no-star n = rw (ne-eqb b (byte "*") n)
 
 up : (x : Bool) → _≡_ {A = ℕ} (cond x 1 1) 1
 up true = refl

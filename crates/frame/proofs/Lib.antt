@@ -8,6 +8,7 @@ pub mod Binds
 pub mod Fields
 pub mod Steps
 pub mod Until
+pub mod Stars
 pub mod Shape
 pub mod Judged
 pub mod OneByte

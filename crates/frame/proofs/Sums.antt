@@ -15,7 +15,7 @@ module _ (s : List ℕ) (i to : ℕ) where
       let g : i < length (take to s) = simp length-take (omega arith) in
       rw (add-one, drop-cons (take to s) i 0 g, getD-take to s i 0 h)
 
-  part-over : min to (length s) ≤ i → slice i to s ≡ []
+  pub part-over : min to (length s) ≤ i → slice i to s ≡ []
   part-over h =
       let g : length (take to s) ≤ i = simp length-take (omega arith) in
       drop-of-length-le (take to s) g
@@ -24,10 +24,6 @@ module _ (s : List ℕ) (i to : ℕ) where
   unfolding checksumFrom
   sum-here x h k = rw (part-here h k)
 
-  pub sum-end : (x : ℕ) → length s ≤ i → checksumFrom x (slice i to s) ≡ x
+  pub sum-end : (x : ℕ) → min to (length s) ≤ i → checksumFrom x (slice i to s) ≡ x
   unfolding checksumFrom
-  sum-end x h = rw (part-over (omega arith))
-
-  pub sum-to : (x : ℕ) → to ≤ i → checksumFrom x (slice i to s) ≡ x
-  unfolding checksumFrom
-  sum-to x h = rw (part-over (omega arith))
+  sum-end x h = rw (part-over h)

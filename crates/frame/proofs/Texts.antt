@@ -66,6 +66,10 @@ alike-equal (a ∷ s) (b ∷ t) e =
 alike-equal [] (b ∷ t) e = let z : _≡_ {A = ℕ} 0 1 = cc in absurd (omega arith)
 alike-equal (a ∷ s) [] e = let z : _≡_ {A = ℕ} 0 1 = cc in absurd (omega arith)
 
+-- a text that is like one of them is one of them
+pub as-one : (ts : List (List ℕ)) (k t : List ℕ) → among ts t ≡ true → alike k t ≡ true → among ts k ≡ true
+as-one ts k t m e = ap (among ts) (alike-equal k t e) ∙ m
+
 alike-self : (s : List ℕ) → alike s s ≡ true
 unfolding alike
 alike-self [] = refl

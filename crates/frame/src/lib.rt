@@ -2,6 +2,7 @@
 mod parse;
 mod refusal;
 mod sentence;
+mod star;
 mod sum;
 
 pub use parse::Framed;

@@ -4,6 +4,7 @@ use crate::refusal::Refusal;
 use crate::refusal::Talker;
 use crate::sentence::Sentence;
 use crate::sentence::known;
+use crate::star::star;
 use crate::sum::Digits;
 use crate::sum::checksum;
 use crate::sum::checksum_field;
@@ -99,7 +100,7 @@ fn sentence(s: &[u8]) -> Read
     let Next::At(_) = text::byte(s, 6, b',') else {
         return Read::No;
     };
-    let Next::At(to) = text::until(s, DATA, b'*') else {
+    let Next::At(to) = star(s, DATA) else {
         return Read::No;
     };
     let Digits::Is(found) = checksum_field(s, to) else {

@@ -1,4 +1,5 @@
 // The checksum: what a sentence's bytes come to, and what its two digits say.
+ghost use Prim.Native.Nat.{min};
 ghost use mathlib.Core.Path.{_≡_};
 ghost use lib.Seq.{slice};
 ghost use Rattle.text.specs.Placed.{Reads};
@@ -13,16 +14,25 @@ pub enum Digits {
     Is(u8),
 }
 
+// The smaller of two places.
+fn smaller(a: usize, b: usize) -> usize
+    ensures { λ r. ⌜ r ≡ min a b ⌝ }
+{
+    if b < a {
+        return b;
+    }
+    a
+}
+
 // The exclusive or of the bytes from `from` up to `to`, which is the end where it stands past it.
+// No byte ends the loop early, so that it takes many bytes at a time.
 pub fn checksum(s: &[u8], from: usize, to: usize) -> u8
     ensures { λ r. ⌜ (r ≡ checksum (slice from to (now (s .entry)))) × (now (s .exit) ≡ now (s .entry)) ⌝ }
 {
+    let end = smaller(to, s.len());
     let mut x: u8 = 0;
     let mut i = from;
-    while i < to {
-        if s.len() <= i {
-            return x;
-        }
+    while i < end {
         x = x ^ s[i];
         i += 1;
     }

@@ -1,14 +1,14 @@
 -- An ASCII text is valid UTF-8: each of its octets is a whole character, of the table's first row. And whether a text is ASCII from a
 -- place on, an octet at a time, as a loop reads it. Assumes nothing.
-use Prim.Native.Nat.{ℕ, _+_, _≤_, _<_}
+use Prim.Native.Nat.{ℕ, _+_, _≤_, _<_, max}
 use native.Mathlib.Omega.{arith}
-use mathlib.Core.Path.{_≡_, refl, ap}
+use mathlib.Core.Path.{_≡_, refl, ap, sym}
 use mathlib.Core.List.{List, [], _∷_}
 use mathlib.Core.Option.{some}
-use mathlib.Core.Bool.{true, false, and-eq-true-iff}
+use mathlib.Core.Bool.{Bool, true, false, _&&_, and-eq-true-iff, and-assoc, and-true}
 use lib.Dec.{ltb}
 use lib.ListN.{length, drop, getD, drop-of-length-le}
-use borrow.Author.Tests.{ltb-true, lt-ltb, le-ltb}
+use borrow.Author.Tests.{ltb-true, ltb-false, lt-ltb, le-ltb}
 use Rattle.utf8.specs.Rfc3629.{utf8-char}
 use Rattle.utf8.specs.Utf8.{step, after, whole, utf8, ascii}
 use Rattle.utf8.proofs.Table.{regional}
@@ -26,15 +26,21 @@ ascii-whole (b ∷ l) e =
 pub ascii-utf8 : (l : List ℕ) → ascii l ≡ true → utf8 l ≡ true
 ascii-utf8 l e = ap whole (ascii-whole l e)
 
-module _ (s : List ℕ) (i : ℕ) where
-  pub low-octet : i < length s → getD s i 0 < 0x80 → ascii (drop i s) ≡ ascii (drop (i + 1) s)
-  unfolding ascii
-  low-octet h k = rw (here s i h, lt-ltb (getD s i 0) 0x80 k)
+-- two octets are below a bound where the larger is
+both-low : (a b c : ℕ) → (ltb a c && ltb b c) ≡ ltb (max a b) c
+both-low a b c = by (ltb a c) (ltb b c) refl refl
+  where
+    by : (x y : Bool) → ltb a c ≡ x → ltb b c ≡ y → (x && y) ≡ ltb (max a b) c
+    by true true p q = let u = ltb-true a c p in let v = ltb-true b c q in sym (lt-ltb (max a b) c (omega arith))
+    by true false p q = let v = ltb-false b c q in sym (le-ltb (max a b) c (omega arith))
+    by false y p q = let u = ltb-false a c p in sym (le-ltb (max a b) c (omega arith))
 
-  pub high-octet : i < length s → 0x80 ≤ getD s i 0 → ascii (drop i s) ≡ false
+module _ (s : List ℕ) (i top : ℕ) where
+  pub one-octet : {next : ℕ} → i < length s → next ≡ max top (getD s i 0)
+      → (ltb top 0x80 && ascii (drop i s)) ≡ (ltb next 0x80 && ascii (drop (i + 1) s))
   unfolding ascii
-  high-octet h k = rw (here s i h, le-ltb (getD s i 0) 0x80 k)
+  one-octet h e = rw (here s i h, e, ← both-low top (getD s i 0) 0x80, and-assoc)
 
-  pub no-octet : length s ≤ i → ascii (drop i s) ≡ true
+  pub no-octet : length s ≤ i → (ltb top 0x80 && ascii (drop i s)) ≡ ltb top 0x80
   unfolding ascii
-  no-octet h = rw (drop-of-length-le s h)
+  no-octet h = rw (drop-of-length-le s h, and-true)

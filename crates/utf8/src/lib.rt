@@ -1,5 +1,6 @@
 // Valid UTF-8 by RFC 3629, section 4: a state and a step for one byte, so that a text may come in pieces of any size, and the check of
 // a whole text, which is a step for each of its bytes. Also whether a text is ASCII.
+ghost use Prim.Native.Nat.{max};
 ghost use mathlib.Core.Path.{_≡_};
 ghost use mathlib.Core.Bool.{cond};
 ghost use mathlib.Core.Option.{none};
@@ -95,16 +96,25 @@ pub fn is_utf8(s: &[u8]) -> bool
     whole(state)
 }
 
-// Whether all bytes of a text are ASCII.
+// The larger of two bytes.
+fn larger(a: u8, b: u8) -> u8
+    ensures { λ r. ⌜ r ≡ max a b ⌝ }
+{
+    if a < b {
+        return b;
+    }
+    a
+}
+
+// Whether all bytes of a text are ASCII: whether the largest is. No byte ends the loop early, so that it takes many bytes at a time.
 pub fn is_ascii(s: &[u8]) -> bool
     ensures { λ r. ⌜ (r ≡ ascii (now (s .entry))) × (now (s .exit) ≡ now (s .entry)) ⌝ }
 {
+    let mut top: u8 = 0;
     let mut i: usize = 0;
     while i < s.len() {
-        if 0x80 <= s[i] {
-            return false;
-        }
+        top = larger(top, s[i]);
         i += 1;
     }
-    true
+    top < 0x80
 }

@@ -1,33 +1,32 @@
--- `utf8::is_ascii` meets its contract. The invariant: the text is ASCII exactly where what is left of it is, since each byte passed is
--- below 0x80. Assumes nothing.
+-- `utf8::is_ascii` meets its contract. The invariant: the text is ASCII exactly where the largest of the bytes passed is below 0x80 and
+-- what is left of the text is ASCII. Assumes nothing.
 use Prim.Native.Nat.{_≤_, _-_}
 use native.Mathlib.Omega.{arith}
 use borrow.Author.Needs.{needs}
 use mathlib.Core.Path.{_≡_, refl, sym, _∙_}
+use mathlib.Core.Bool.{_&&_}
 use denote.Ref.{now}
+use lib.Dec.{ltb}
 use lib.ListN.{length, drop}
 use Rattle.utf8.specs.Utf8.{ascii}
-use Rattle.utf8.proofs.Ascii.{low-octet, high-octet, no-octet}
+use Rattle.utf8.proofs.Ascii.{one-octet, no-octet}
 use Rattle.utf8.proofs.is_ascii.Statement.{statement}
 use Rattle.utf8.proofs.is_ascii.Tie as tie
 
 abbrev Inv-loop : tie.InvT-loop
-Inv-loop s i₀ i = (i ≤ length s) × (ascii s ≡ ascii (drop i s))
+Inv-loop s top₀ i₀ top i = (i ≤ length s) × (ascii s ≡ (ltb top 0x80 && ascii (drop i s)))
 
 abbrev μ-loop : tie.MeasureT-loop
-μ-loop s i₀ i = length s - i
+μ-loop s top₀ i₀ top i = length s - i
 
 loop-holds : tie.Need-loop-holds Inv-loop μ-loop
 loop-holds c = (omega arith, refl)
 
-shared-slice-read-if1 : tie.Need-shared-slice-read-if1 Inv-loop μ-loop
-shared-slice-read-if1 c = search needs
+shared-slice-read-larger : tie.Need-shared-slice-read-larger Inv-loop μ-loop
+shared-slice-read-larger c = search needs
 
-returns : tie.Need-returns Inv-loop μ-loop
-returns c =
-    let k = c .before .before in
-    let text = now (k .before .before .args .s) in
-    (sym (k .before .loop .inv .1 ∙ high-octet text _ (k .loop-test .taken) (c .if1 .taken)), refl)
+larger-requires : tie.Need-larger-requires Inv-loop μ-loop
+larger-requires c κs = search needs
 
 add-i : tie.Need-add-i Inv-loop μ-loop
 add-i c = search needs
@@ -38,11 +37,13 @@ loop-less c = search needs
 loop-again : tie.Need-loop-again Inv-loop μ-loop
 loop-again c =
     let k = c .before .before in
-    let text = now (k .before .before .args .s) in
-    (omega arith, k .before .loop .inv .1 ∙ low-octet text _ (k .loop-test .taken) (c .if1 .left))
+    let text = now (k .before .before .before .args .s) in
+    (omega arith, k .before .loop .inv .1 ∙ one-octet text _ _ (k .loop-test .taken) (c .larger .ensures))
 
-returns-2 : tie.Need-returns-2 Inv-loop μ-loop
-returns-2 c = (sym (c .before .loop .inv .1 ∙ no-octet (now (c .before .before .args .s)) _ (c .loop-test .left)), refl)
+returns : tie.Need-returns Inv-loop μ-loop
+returns c =
+    let text = now (c .before .before .before .args .s) in
+    (sym (c .before .loop .inv .1 ∙ no-octet text _ (c .before .loop .top) (c .loop-test .left)), refl)
 
 pub is-ascii-spec : {M : Type 1} → statement M
 is-ascii-spec =
@@ -51,9 +52,9 @@ is-ascii-spec =
     Inv-loop
     μ-loop
     loop-holds
-    shared-slice-read-if1
-    returns
+    shared-slice-read-larger
+    larger-requires
     add-i
     loop-less
     loop-again
-    returns-2)
+    returns)

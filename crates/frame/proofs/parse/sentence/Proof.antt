@@ -68,8 +68,8 @@ returns-5 : tie.Need-returns-5
 unfolding sentence
 returns-5 c = (search steps depth 14, refl)
 
-until-requires : tie.Need-until-requires
-until-requires c κs = search needs
+star-requires : tie.Need-star-requires
+star-requires c κs = search needs
 
 enum-known-to : tie.Need-enum-known-to
 enum-known-to c = search needs
@@ -103,7 +103,7 @@ returns-7 c =
           (go-two _ (kind .before .before .talker2 .given .1) (talker .talker .ensures .0)
           (go-three _ (comma .before .before .k .given .1) (kind .sentence-type .ensures .0)
           (go-char (byte ",") _ (text .before .enum-told6 .given .1) (comma .byte2 .ensures .0)
-          (go-part _ (field .before .before .to .given .1) (text .until .ensures .0)
+          (go-part _ (field .before .before .to .given .1) (text .star .ensures .0)
           (stop-field _ (c .enum-told9 .given .1) (field .checksum-field .ensures .0)))))),
       refl,
     )
@@ -125,9 +125,9 @@ returns-8 c =
           (go-two _ (kind .before .before .talker2 .given .1) (talker .talker .ensures .0)
           (go-three _ (comma .before .before .k .given .1) (kind .sentence-type .ensures .0)
           (go-char (byte ",") _ (text .before .enum-told6 .given .1) (comma .byte2 .ensures .0)
-          (go-part _ end (text .until .ensures .0)
+          (go-part _ end (text .star .ensures .0)
           (go-field _ (c .before .before .found .given .1) (field .checksum-field .ensures .0)
-          (done-sentence (c .new .ensures) (took (text .until .ensures .0) (ap (part _ dataFrom) end)))))))),
+          (done-sentence (c .new .ensures) (took (text .star .ensures .0) (ap (part _ dataFrom) end)))))))),
       refl,
     )
 
@@ -153,7 +153,7 @@ sentence-spec =
     enum-told-6
     enum-told-7
     returns-5
-    until-requires
+    star-requires
     enum-known-to
     enum-told-8
     returns-6

@@ -1,14 +1,16 @@
 -- The table of the code is the list of the definition. The invariant: the type is in the list exactly where it is in what is left
--- of it, since no type passed is alike. Assumes nothing.
+-- of it, since no type passed is alike. The types that are tried first are in the list. Assumes nothing.
 use Prim.Native.Nat.{_≤_, _-_}
 use native.Mathlib.Omega.{arith}
 use mathlib.Core.Path.{_≡_, refl, sym, _∙_}
+use mathlib.Core.Bool.{true}
 use mathlib.Core.List.{[]}
 use lib.ListN.{drop}
 use borrow.Author.Needs.{needs}
-use Rattle.frame.specs.Types.{types, among}
+use Rattle.text.specs.Bytes.{bytes}
+use Rattle.frame.specs.Types.{types, alike, among}
 use Rattle.frame.specs.Answer.{letters}
-use Rattle.frame.proofs.Texts.{found, not-here, nowhere}
+use Rattle.frame.proofs.Texts.{found, not-here, nowhere, as-one}
 use Rattle.frame.proofs.sentence.known.Statement.{statement}
 use Rattle.frame.proofs.sentence.known.Tie as tie
 
@@ -17,6 +19,36 @@ Inv-loop kind table i₀ i = (i ≤ 30) × (table ≡ types) × (among types (le
 
 abbrev μ-loop : tie.MeasureT-loop
 μ-loop kind table i₀ i = 30 - i
+
+known-gsv : among types (bytes "GSV") ≡ true
+unfolding types among alike
+known-gsv = refl
+
+known-gsa : among types (bytes "GSA") ≡ true
+unfolding types among alike
+known-gsa = refl
+
+known-rmc : among types (bytes "RMC") ≡ true
+unfolding types among alike
+known-rmc = refl
+
+same-requires : tie.Need-same-requires Inv-loop μ-loop
+same-requires c κs = search needs
+
+returns : tie.Need-returns Inv-loop μ-loop
+returns c = sym (as-one types _ (bytes "GSV") known-gsv (sym (c .before .same .ensures) ∙ c .if1 .taken))
+
+same-requires-2 : tie.Need-same-requires-2 Inv-loop μ-loop
+same-requires-2 c κs = search needs
+
+returns-2 : tie.Need-returns-2 Inv-loop μ-loop
+returns-2 c = sym (as-one types _ (bytes "GSA") known-gsa (sym (c .before .same2 .ensures) ∙ c .if2 .taken))
+
+same-requires-3 : tie.Need-same-requires-3 Inv-loop μ-loop
+same-requires-3 c κs = search needs
+
+returns-3 : tie.Need-returns-3 Inv-loop μ-loop
+returns-3 c = sym (as-one types _ (bytes "RMC") known-rmc (sym (c .before .same3 .ensures) ∙ c .if3 .taken))
 
 loop-holds : tie.Need-loop-holds Inv-loop μ-loop
 unfolding types
@@ -28,14 +60,14 @@ mul-t c = search needs
 array-copy-out-t : tie.Need-array-copy-out-t Inv-loop μ-loop
 array-copy-out-t c = search needs
 
-same-requires : tie.Need-same-requires Inv-loop μ-loop
-same-requires c κs = search needs
+same-requires-4 : tie.Need-same-requires-4 Inv-loop μ-loop
+same-requires-4 c κs = search needs
 
-returns : tie.Need-returns Inv-loop μ-loop
+returns-4 : tie.Need-returns-4 Inv-loop μ-loop
 unfolding types
-returns c =
+returns-4 c =
     let k = c .before .before .before in
-    sym (k .before .loop .inv .2 ∙ found types _ _ _ (k .loop-test .taken) (sym (c .before .same .ensures) ∙ c .if1 .taken))
+    sym (k .before .loop .inv .2 ∙ found types _ _ _ (k .loop-test .taken) (sym (c .before .same4 .ensures) ∙ c .if4 .taken))
 
 add-i : tie.Need-add-i Inv-loop μ-loop
 add-i c = search needs
@@ -47,11 +79,11 @@ loop-again : tie.Need-loop-again Inv-loop μ-loop
 unfolding types
 loop-again c =
     let k = c .before .before .before in
-    (omega arith, refl, k .before .loop .inv .2 ∙ not-here types _ _ _ (k .loop-test .taken) (sym (c .before .same .ensures) ∙ c .if1 .left))
+    (omega arith, refl, k .before .loop .inv .2 ∙ not-here types _ _ _ (k .loop-test .taken) (sym (c .before .same4 .ensures) ∙ c .if4 .left))
 
-returns-2 : tie.Need-returns-2 Inv-loop μ-loop
+returns-5 : tie.Need-returns-5 Inv-loop μ-loop
 unfolding types
-returns-2 c = sym (c .before .loop .inv .2 ∙ nowhere types _ [] _ (c .loop-test .left))
+returns-5 c = sym (c .before .loop .inv .2 ∙ nowhere types _ [] _ (c .loop-test .left))
 
 pub known-spec : {M : Type 1} → statement M
 known-spec =
@@ -59,12 +91,18 @@ known-spec =
     (tie.spec
     Inv-loop
     μ-loop
+    same-requires
+    returns
+    same-requires-2
+    returns-2
+    same-requires-3
+    returns-3
     loop-holds
     mul-t
     array-copy-out-t
-    same-requires
-    returns
+    same-requires-4
+    returns-4
     add-i
     loop-less
     loop-again
-    returns-2)
+    returns-5)

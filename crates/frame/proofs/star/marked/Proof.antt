@@ -1,0 +1,58 @@
+-- The invariant: the flag after the whole part is the one after what is left of it, from the one so far. Assumes nothing.
+use Prim.Native.Nat.{_-_}
+use native.Mathlib.Omega.{arith}
+use mathlib.Core.Path.{_≡_, refl, sym, _∙_}
+use borrow.Author.Needs.{needs}
+use denote.Ref.{now}
+use lib.Seq.{slice}
+use Rattle.frame.specs.Star.{marked}
+use Rattle.frame.proofs.Stars.{one-marked, all-marked}
+use Rattle.frame.proofs.star.marked.Statement.{statement}
+use Rattle.frame.proofs.star.marked.Tie as tie
+
+abbrev Inv-loop : tie.InvT-loop
+Inv-loop s from to flag₀ i₀ flag i = marked 0 (slice from to s) ≡ marked flag (slice i to s)
+
+abbrev μ-loop : tie.MeasureT-loop
+μ-loop s from to flag₀ i₀ flag i = to - i
+
+loop-holds : tie.Need-loop-holds Inv-loop μ-loop
+loop-holds c = refl
+
+shared-slice-read-mark : tie.Need-shared-slice-read-mark Inv-loop μ-loop
+shared-slice-read-mark c = search needs
+
+mark-requires : tie.Need-mark-requires Inv-loop μ-loop
+mark-requires c κs = search needs
+
+add-i : tie.Need-add-i Inv-loop μ-loop
+add-i c = search needs
+
+loop-less : tie.Need-loop-less Inv-loop μ-loop
+loop-less c = search needs
+
+loop-again : tie.Need-loop-again Inv-loop μ-loop
+loop-again c =
+    let k = c .before .before .before in
+    let a = k .before .before .args in
+    k .loop .inv ∙ one-marked (now (a .s)) (k .loop .i) (a .to) _ (omega arith) (omega arith) (c .mark .ensures)
+
+returns : tie.Need-returns Inv-loop μ-loop
+returns c =
+    let k = c .before in
+    let a = k .before .before .args in
+    (sym (k .loop .inv ∙ all-marked (now (a .s)) (k .loop .i) (a .to) _ (omega arith)), refl)
+
+pub marked-spec : {M : Type 1} → statement M
+marked-spec =
+    tie.close
+    (tie.spec
+    Inv-loop
+    μ-loop
+    loop-holds
+    shared-slice-read-mark
+    mark-requires
+    add-i
+    loop-less
+    loop-again
+    returns)

@@ -3,6 +3,7 @@ ghost use Rattle.nmea_log.specs.Filled.{Brings, Fits};
 use frame::Refusal;
 use libc::STDIN_FILENO;
 use libc::STDOUT_FILENO;
+use log::totals::totals;
 use log::walk::Counts;
 use log::walk::Walked;
 
@@ -92,10 +93,7 @@ fn print_refusal(why: Refusal) -> bool {
 
 // The totals of a log, or its refusal, on a line.
 fn tell(log: &[u8]) -> bool {
-    let g = gather::table::fresh();
-    let w = log::walk::walk(log, 0, log.len(), g);
-    let walked = w.walked;
-    let told = match walked {
+    let told = match totals(log) {
         Walked::Refused(why) => print_refusal(why),
         Walked::Went(c) => print_counts(c),
     };

@@ -95,7 +95,7 @@ fn same(kind: Kind, t: [u8; 3]) -> bool
     kind.2 == t[2]
 }
 
-// Whether a type is one of the thirty. The three that most lines of a log have are tried first.
+// Whether a type is one of the thirty. The three whose data are read are tried first.
 pub fn known(kind: Kind) -> bool
     ensures { λ r. ⌜ r ≡ among types (letters kind) ⌝ }
 {

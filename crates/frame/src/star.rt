@@ -1,5 +1,5 @@
-// Where the data end: at the first `*`. In a line that ends with its checksum that is the third byte from the end, and no `*` stands
-// before it.
+// Where the data end: at the first `*`. A line that ends with its checksum has a `*` as the third byte from its end, and where none
+// stands before it, that is the first.
 use text::Next;
 ghost use Prim.Native.Nat.{_≤_};
 ghost use mathlib.Core.Path.{_≡_};

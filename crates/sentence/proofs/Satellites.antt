@@ -1,6 +1,6 @@
 -- The satellites beside a GSA answer: a record has those that the data has, and a refusal none. Assumes nothing.
 use Prim.Native.Nat.{ℕ}
-use mathlib.Core.Path.{_≡_, ap, sym, _∙_, subst}
+use mathlib.Core.Path.{_≡_, refl, ap, sym, _∙_, subst}
 use mathlib.Core.List.{List}
 use lib.ListN.{length, take}
 use Rattle.text.specs.Value.{Value, is}
@@ -9,7 +9,7 @@ use Rattle.gsa.specs.Answer.{Answers, said, row, gsaOf as gsaData, satellitesOf
 use Rattle.gsa.specs.declared.GsaRead.{GsaRead}
 use Rattle.gsa.specs.declared.GsaAnswer.the-variants.{Is as AGsa}
 use Rattle.gsa.specs.declared.GsaHead.{GsaHead}
-use Rattle.sentence.specs.Sentence.{Answer, isGsa}
+use Rattle.sentence.specs.Sentence.{Answer, verdictOf, isGsa}
 use Rattle.sentence.specs.Answer.{gsaSentence, gsaFound, SaysGsa, recordOf, Says, asRecord}
 use Rattle.sentence.specs.declared.GsaRecord.{GsaRecord}
 use Rattle.sentence.specs.declared.GsaFound.{GsaFound}
@@ -57,3 +57,8 @@ as-result {a} {l} {p} s cells count e =
     by : (f : GsaFound) → p .answer ≡ asRecord f → recordOf (take (p .count) (p .satellites)) (p .answer) ≡ gsaFound (take (l .count) (l .satellites)) f
     by (GsaIs g) e = ap (recordOf (take (p .count) (p .satellites))) e ∙ ap (λ (zs : List ℕ). isGsa (gsaSentence zs g)) ys
     by (GsaRefused r) e = ap (recordOf (take (p .count) (p .satellites))) e
+
+-- whether a GSA line is accepted does not turn on its satellites
+pub found-verdict : (xs ys : List ℕ) (f : GsaFound) → verdictOf (gsaFound xs f) ≡ verdictOf (gsaFound ys f)
+found-verdict xs ys (GsaIs g) = refl
+found-verdict xs ys (GsaRefused r) = refl

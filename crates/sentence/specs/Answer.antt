@@ -2,7 +2,9 @@
 use Prim.Native.Nat.{ℕ}
 use mathlib.Core.Path.{_≡_}
 use mathlib.Core.List.{List, []}
+use mathlib.Core.Option.{Option, none, some}
 use lib.ListN.{length, take}
+use Rattle.frame.specs.Refused.{Refused}
 use Rattle.frame.specs.Answer.{talkerBytes, letters, refused}
 use Rattle.gsv.specs.Answer.{gnss, gsvData}
 use Rattle.gsa.specs.Answer.{gsaOf as gsaData, row}
@@ -20,6 +22,8 @@ use Rattle.sentence.specs.declared.GsaLine.{GsaLine}
 use Rattle.sentence.specs.declared.Record.{Record}
 use Rattle.sentence.specs.declared.Record.the-variants.{Rmc as ARmc, Gsa as AGsa, Gsv as AGsv, Other as AnOther, Refused as ARefusal}
 use Rattle.sentence.specs.declared.ParseResult.{ParseResult}
+use Rattle.sentence.specs.declared.Verdict.{Verdict}
+use Rattle.sentence.specs.declared.Verdict.the-variants.{Accepted, Refused as AVerdict}
 
 abbrev pub rmcLine : RmcLine → Answer
 rmcLine (RmcIs d) = isRmc (rmcData d)
@@ -76,3 +80,7 @@ alone r = record { answer = r; satellites = row []; count = 0 }
 abbrev pub asRecord : GsaFound → Record
 asRecord (GsaIs g) = AGsa g
 asRecord (GsaRefused r) = ARefusal r
+
+abbrev pub verdict : Verdict → Option Refused
+verdict Accepted = none
+verdict (AVerdict r) = some (refused r)

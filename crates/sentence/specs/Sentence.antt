@@ -102,3 +102,11 @@ parseGsa l = framedBy (ofType (bytes "GSA") gsaOf) (frame l)
 
 unfoldable pub parseGsv : List ℕ → Answer
 parseGsv l = framedBy (ofType (bytes "GSV") gsvOf) (frame l)
+
+-- the refusal that an answer is, if it is one
+abbrev pub verdictOf : Answer → Option Refused
+verdictOf (isRmc r) = none
+verdictOf (isGsa g) = none
+verdictOf (isGsv g) = none
+verdictOf (isOther k) = none
+verdictOf (isRefused r) = some r

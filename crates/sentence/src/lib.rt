@@ -1,13 +1,14 @@
 // A line's whole answer: framing, then the reader of its type. Every byte string has one.
 ghost use mathlib.Core.Path.{_≡_};
 ghost use mathlib.Core.Bool.{true, cond};
+ghost use mathlib.Core.List.{[]};
 ghost use Prim.Native.Nat.{_≤_};
 ghost use lib.ListN.{length};
 ghost use Rattle.text.specs.Bytes.{bytes};
 ghost use Rattle.frame.specs.Types.{alike};
 ghost use Rattle.frame.specs.Answer.{letters, parts, refused};
-ghost use Rattle.sentence.specs.Sentence.{isRefused, rmcOf, gsaOf, gsvOf, dispatch, answer, parseRmc, parseGsa, parseGsv};
-ghost use Rattle.sentence.specs.Answer.{rmcLine, gsvLine, SaysGsa, Says, alone, asRecord};
+ghost use Rattle.sentence.specs.Sentence.{isRefused, rmcOf, gsaOf, gsvOf, dispatch, answer, verdictOf, parseRmc, parseGsa, parseGsv};
+ghost use Rattle.sentence.specs.Answer.{rmcLine, gsvLine, gsaFound, SaysGsa, Says, alone, asRecord, verdict};
 use frame::Framed;
 use frame::Kind;
 use frame::Refusal;
@@ -320,5 +321,67 @@ pub fn parse_bytes(line: &[u8]) -> ParseResult
     match frame::parse_nmea_sentence(line) {
         Framed::Refused(r) => alone(Record::Refused(r)),
         Framed::Is(x) => dispatch(line, x),
+    }
+}
+
+// A line's answer in brief, for one who counts lines: its refusal, or that it is accepted.
+pub enum Verdict {
+    Accepted,
+    Refused(Refusal),
+}
+
+fn on_rmc(r: RmcLine) -> Verdict
+    ensures { λ p. ⌜ verdict p ≡ verdictOf (rmcLine r) ⌝ }
+{
+    match r {
+        RmcLine::Is(_) => Verdict::Accepted,
+        RmcLine::Refused(why) => Verdict::Refused(why),
+    }
+}
+
+fn on_gsv(r: GsvLine) -> Verdict
+    ensures { λ p. ⌜ verdict p ≡ verdictOf (gsvLine r) ⌝ }
+{
+    match r {
+        GsvLine::Is(_) => Verdict::Accepted,
+        GsvLine::Refused(why) => Verdict::Refused(why),
+    }
+}
+
+fn on_gsa(r: GsaLine) -> Verdict
+    ensures { λ p. ⌜ verdict p ≡ verdictOf (gsaFound [] (r .found)) ⌝ }
+{
+    let found = r.found;
+    match found {
+        GsaFound::Is(_) => Verdict::Accepted,
+        GsaFound::Refused(why) => Verdict::Refused(why),
+    }
+}
+
+// A framed sentence, by its type.
+fn judged(s: &[u8], x: Sentence) -> Verdict
+    requires { ⌜ x .to ≤ length (now s) ⌝ }
+    ensures { λ r. ⌜ (verdict r ≡ verdictOf (dispatch (parts (now (s .entry)) x))) × (now (s .exit) ≡ now (s .entry)) ⌝ }
+{
+    let kind = x.kind;
+    if same(kind, RMC) {
+        return on_rmc(rmc_of(s, x));
+    }
+    if same(kind, GSA) {
+        return on_gsa(gsa_of(s, x));
+    }
+    if same(kind, GSV) {
+        return on_gsv(gsv_of(s, x));
+    }
+    Verdict::Accepted
+}
+
+// Whether any byte string is accepted. It builds no record.
+pub fn judge(line: &[u8]) -> Verdict
+    ensures { λ r. ⌜ (verdict r ≡ verdictOf (answer (now (line .entry)))) × (now (line .exit) ≡ now (line .entry)) ⌝ }
+{
+    match frame::parse_nmea_sentence(line) {
+        Framed::Refused(r) => Verdict::Refused(r),
+        Framed::Is(x) => judged(line, x),
     }
 }

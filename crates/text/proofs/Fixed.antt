@@ -7,7 +7,7 @@ use mathlib.Core.List.{List, [], _∷_, _++_}
 use mathlib.Core.Option.{Option, none, some}
 use lib.ListN.{length, take, drop, getD, length-drop}
 use lib.Dec.{leb, ltb, eqb}
-use borrow.Author.Tests.{le-leb, lt-leb, leb-true, ne-eqb}
+use borrow.Author.Tests.{le-leb, lt-leb, leb-true, ltb-true, ltb-false, lt-ltb, le-ltb, ne-eqb}
 use Rattle.text.specs.Reader.{Parse, miss, got}
 use Rattle.text.specs.Number.{isDigit, digits, afterDigits, valueFrom, fixed, two, three, unsigned, upTo, written}
 use Rattle.text.proofs.Places.{here}
@@ -21,22 +21,38 @@ digit-top b e = by (leb 48 b) (leb b 57) refl e
     by true false f e = let z : _≡_ {A = ℕ} 0 1 = cc in omega arith
     by false u f e = let z : _≡_ {A = ℕ} 0 1 = cc in omega arith
 
+unit-low : (b : ℕ) → b < 48 → unit b ≡ b + 208
+unit-low b h = rw (lt-ltb b 48 h)
+
+unit-high : (b : ℕ) → 48 ≤ b → unit b ≡ b - 48
+unit-high b h = rw (le-ltb b 48 h)
+
 pub unit-digit : (b : ℕ) → unit b ≤ 9 → isDigit b ≡ true
-unit-digit b h = by (isDigit b) refl h
+unit-digit b h = by (ltb b 48) refl
   where
-    by : (t : Bool) → isDigit b ≡ t → cond t (b - 48) 10 ≤ 9 → isDigit b ≡ true
-    by true e h = e
-    by false e h = absurd (omega arith)
+    by : (t : Bool) → ltb b 48 ≡ t → isDigit b ≡ true
+    by true e = absurd (omega (arith, unit-low b (ltb-true b 48 e), h))
+    by false e =
+        let k : 48 ≤ b = ltb-false b 48 e in
+        let m : b ≤ 57 = omega (arith, unit-high b k, h) in
+        rw (le-leb 48 b k, le-leb b 57 m)
 
 pub unit-none : (b : ℕ) → 9 < unit b → isDigit b ≡ false
-unit-none b h = by (isDigit b) refl h
+unit-none b h = by (ltb b 48) refl
   where
-    by : (t : Bool) → isDigit b ≡ t → 9 < cond t (b - 48) 10 → isDigit b ≡ false
-    by true e h = let k = digit-top b e in absurd (omega arith)
-    by false e h = e
+    by : (t : Bool) → ltb b 48 ≡ t → isDigit b ≡ false
+    by true e = rw (lt-leb 48 b (ltb-true b 48 e))
+    by false e =
+        let k : 48 ≤ b = ltb-false b 48 e in
+        let m : 57 < b = omega (arith, unit-high b k, h) in
+        rw (le-leb 48 b k, lt-leb b 57 m)
 
 pub unit-is : (b : ℕ) → isDigit b ≡ true → unit b ≡ b - 48
-unit-is b e = rw e
+unit-is b e = by (leb 48 b) (leb b 57) refl e
+  where
+    by : (t u : Bool) → leb 48 b ≡ t → (t && u) ≡ true → unit b ≡ b - 48
+    by true u f e = unit-high b (leb-true 48 b f)
+    by false u f e = let z : _≡_ {A = ℕ} 0 1 = cc in absurd (omega arith)
 
 two-of : (a b : ℕ) (l : List ℕ) → two (a ∷ b ∷ l) ≡ upTo 255 (unsigned (a ∷ b ∷ [])) l
 unfolding fixed

@@ -163,15 +163,12 @@ pub fn opt_number(s: &[u8], at: usize, max: u32) -> Field
     }
 }
 
-// What a byte counts as a digit; ten where it is none.
+// What a byte counts as a digit; more than nine where it is none. Both answers are one difference that wraps.
 pub fn unit(b: u8) -> u32
     ensures { λ r. ⌜ r ≡ unit b ⌝ }
 {
     if b < b'0' {
-        return 10;
-    }
-    if b'9' < b {
-        return 10;
+        return (b + 208) as u32;
     }
     (b - b'0') as u32
 }

@@ -1,20 +1,23 @@
 -- `unit` meets its contract, test by test. Assumes nothing.
-use Rattle.text.proofs.Digits.{digit-yes, digit-below, digit-above}
+use borrow.Author.Tests.{lt-ltb, le-ltb}
 use borrow.Author.Needs.{needs}
 use Rattle.text.proofs.unit.Statement.{statement}
 use Rattle.text.proofs.unit.Tie as tie
 
-returns : tie.Need-returns
-returns c = rw (digit-below _ (c .if1 .taken))
-
-returns-2 : tie.Need-returns-2
-returns-2 c = rw (digit-above _ (c .if2 .taken))
+add-result : tie.Need-add-result
+add-result c = search needs
 
 cast-result : tie.Need-cast-result
 cast-result c = search needs
 
-returns-3 : tie.Need-returns-3
-returns-3 c = rw (digit-yes _ (c .before .if1 .left) (c .if2 .left))
+returns : tie.Need-returns
+returns c = rw (lt-ltb _ _ (c .if1 .taken))
+
+cast-result-2 : tie.Need-cast-result-2
+cast-result-2 c = search needs
+
+returns-2 : tie.Need-returns-2
+returns-2 c = rw (le-ltb _ _ (c .if1 .left))
 
 pub unit-spec : {M : Type 1} → statement M
-unit-spec = tie.close (tie.spec returns returns-2 cast-result returns-3)
+unit-spec = tie.close (tie.spec add-result cast-result returns cast-result-2 returns-2)

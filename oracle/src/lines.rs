@@ -1,16 +1,23 @@
 //! The lines that both sides are asked.
 
+mod batch;
 mod corpus;
 mod damage;
+mod draft;
+mod exhaustive;
 mod generator;
 mod gsa;
 mod gsv;
+mod part;
 mod random;
 mod rmc;
 mod sentence;
 mod texts;
 mod worked;
 
+pub use batch::Batch;
 pub use corpus::corpus_lines;
+pub use exhaustive::{exhaustive_parts, SHORT_DECIMALS};
 pub use generator::Generator;
+pub use part::Part;
 pub use worked::worked_lines;

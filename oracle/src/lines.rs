@@ -8,6 +8,7 @@ mod exhaustive;
 mod generator;
 mod gsa;
 mod gsv;
+mod log;
 mod part;
 mod random;
 mod rmc;
@@ -16,8 +17,9 @@ mod texts;
 mod worked;
 
 pub use batch::Batch;
-pub use corpus::corpus_lines;
+pub use corpus::{corpus, corpus_lines, CorpusLog};
 pub use exhaustive::{exhaustive_parts, SHORT_DECIMALS};
 pub use generator::Generator;
+pub use log::generated_log;
 pub use part::Part;
 pub use worked::worked_lines;

@@ -95,6 +95,23 @@ pub enum System {
     Qzss,
 }
 
+impl System {
+    /// By their numbers, from 1 on.
+    pub const ALL: [System; 6] = [
+        System::Gps,
+        System::Glonass,
+        System::Galileo,
+        System::Beidou,
+        System::NavIc,
+        System::Qzss,
+    ];
+
+    /// The system's number in docs/ABI.md.
+    pub fn number(self) -> u8 {
+        1 + self as u8
+    }
+}
+
 impl From<GnssType> for System {
     fn from(system: GnssType) -> Self {
         match system {

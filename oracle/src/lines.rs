@@ -22,4 +22,4 @@ pub use exhaustive::{exhaustive_parts, SHORT_DECIMALS};
 pub use generator::Generator;
 pub use log::generated_log;
 pub use part::Part;
-pub use worked::worked_lines;
+pub use worked::{comment_lines, worked_lines};

@@ -11,7 +11,7 @@ use oracle::{
 type Checked = Result<(), Box<dyn Error>>;
 
 /// How many logs are generated.
-const GENERATED: u64 = 2_000;
+const GENERATED: u64 = 1_000;
 
 fn log_of(bodies: &[&str]) -> Vec<u8> {
     let lines = bodies.iter().map(|body| with_checksum(body) + "\n");
@@ -177,7 +177,9 @@ mod linked {
         let handed_out = (0..ours.lines.len()).filter(|&line| counts[line + 1] > counts[line]);
         handed_out
             .map(|line| {
-                let last = records(line).last().expect("a group ends with a record");
+                let last = records(line)
+                    .next_back()
+                    .expect("a group ends with a record");
                 let mut lists: Vec<_> = records(line)
                     .filter(|record| record.system == last.system)
                     .map(|record| record.entries.into_iter().flatten())
@@ -195,7 +197,7 @@ mod linked {
     }
 
     #[test]
-    fn every_real_log() -> Checked {
+    fn every_real_log_line_by_line() -> Checked {
         let mut groups = 0;
         let logs = corpus()?;
         for log in &logs {
@@ -205,6 +207,17 @@ mod linked {
         }
         println!("{} logs with {groups} groups", logs.len());
         assert!(groups > 0);
+        Ok(())
+    }
+
+    /// What oracle/memcheck runs, where the walks after every line take long.
+    #[test]
+    fn every_real_log_at_once() -> Checked {
+        for log in corpus()? {
+            for piece in pieces(&log.bytes) {
+                assert_eq!(linked_totals(piece), Ok(all_totals(piece)), "{}", log.name);
+            }
+        }
         Ok(())
     }
 

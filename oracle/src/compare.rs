@@ -40,9 +40,10 @@ pub enum Amount {
 
 /// Compares the two sides, up to the first difference.
 pub fn compare(ours: &Ours, plan: Plan) -> io::Result<Report> {
+    let start = Instant::now();
     let (lines, end) = match plan.generated {
         Amount::Lines(lines) => (lines, None),
-        Amount::Time(time) => (u64::MAX, Some(Instant::now() + time)),
+        Amount::Time(time) => (u64::MAX, Some(start + time)),
     };
     let whole = |part: Part| (part, u64::MAX, None);
     let mut parts = vec![whole(Part::of_lines("worked lines", worked_lines()))];
@@ -65,6 +66,7 @@ pub fn compare(ours: &Ours, plan: Plan) -> io::Result<Report> {
             break;
         }
     }
+    report.time = start.elapsed();
     Ok(report)
 }
 

@@ -1,9 +1,12 @@
-//! Logs, walked by document 01's words alone. Nothing is carried from line to
-//! line: what a group is stands here as it is defined.
+//! Logs, walked by document 01's words alone.
 
 use std::fmt;
 
-use crate::{expected, Answer, Entry, Gsv, System};
+use crate::{
+    expected,
+    gatherer::{groups, Group},
+    Answer,
+};
 
 /// The longest log.
 pub const LONGEST_LOG: usize = 65_536;
@@ -16,15 +19,6 @@ pub struct Totals {
     pub accepted: u64,
     pub refused: u64,
     pub groups: u64,
-}
-
-/// The satellites that one system's sentences list together.
-#[derive(Clone, Debug, PartialEq, Eq)]
-pub struct Group {
-    pub system: System,
-    pub sentences: u16,
-    pub in_view: u16,
-    pub entries: Vec<Entry>,
 }
 
 /// A log's lines, and the answers to them.
@@ -53,51 +47,7 @@ impl<'a> Log<'a> {
 
     /// The groups, each with the index of the line that hands it out.
     pub fn groups(&self) -> Vec<(usize, Group)> {
-        let mut groups = vec![];
-        for (index, answer) in self.answers.iter().enumerate() {
-            if let Some(Answer::Gsv(last)) = answer {
-                groups.extend(self.group_at(index, last).map(|group| (index, group)));
-            }
-        }
-        groups
-    }
-
-    /// The group that ends with this line, if one does.
-    fn group_at(&self, index: usize, last: &Gsv) -> Option<Group> {
-        if !(1..=9).contains(&last.sentences) {
-            return None;
-        }
-        let run = self.run_up_to(index, last);
-        let numbers = run.iter().map(|record| record.number);
-        let is_group = numbers.eq(1..=last.sentences)
-            && run
-                .iter()
-                .all(|record| (record.sentences, record.in_view) == (last.sentences, last.in_view));
-        is_group.then(|| Group {
-            system: last.system,
-            sentences: last.sentences,
-            in_view: last.in_view,
-            entries: run
-                .iter()
-                .flat_map(|record| record.entries.iter().flatten().copied())
-                .collect(),
-        })
-    }
-
-    /// The line's record and those of its system before it, as many as the
-    /// line says that there are in all.
-    fn run_up_to(&self, index: usize, last: &Gsv) -> Vec<&Gsv> {
-        let mut run: Vec<&Gsv> = self.answers[..=index]
-            .iter()
-            .rev()
-            .filter_map(|answer| match answer {
-                Some(Answer::Gsv(record)) if record.system == last.system => Some(record),
-                _ => None,
-            })
-            .take(last.sentences.into())
-            .collect();
-        run.reverse();
-        run
+        groups(&self.answers)
     }
 
     /// The totals of the first lines, for each count of lines from 0 on.

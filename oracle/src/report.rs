@@ -1,4 +1,4 @@
-use std::fmt;
+use std::{fmt, time::Duration};
 
 use crate::{answer::Class, lines::Part, words::answer_of, Answer, Words};
 
@@ -8,6 +8,8 @@ pub struct Report {
     /// The parts that were run.
     pub parts: Vec<PartReport>,
     pub tally: Tally,
+    /// How long it took.
+    pub time: Duration,
     pub difference: Option<Box<Difference>>,
 }
 
@@ -92,6 +94,9 @@ impl fmt::Display for Report {
             writeln!(f, "{part}")?;
         }
         writeln!(f, "{}", self.tally)?;
+        let seconds = self.time.as_secs_f64();
+        let a_second = self.lines() as f64 / seconds;
+        writeln!(f, "in {seconds:.1} seconds, {a_second:.0} lines a second")?;
         if let Some(difference) = &self.difference {
             writeln!(f, "{difference}")?;
         }

@@ -10,9 +10,6 @@ use oracle::{
 
 type Checked = Result<(), Box<dyn Error>>;
 
-/// How many logs are generated.
-const GENERATED: u64 = 1_000;
-
 fn log_of(bodies: &[&str]) -> Vec<u8> {
     let lines = bodies.iter().map(|body| with_checksum(body) + "\n");
     lines.collect::<String>().into_bytes()
@@ -132,6 +129,9 @@ mod linked {
     use oracle::{answer_of, expected, linked, linked_totals, stretches, Answer, Group, Log};
 
     use super::*;
+
+    /// How many logs are generated.
+    const GENERATED: u64 = 1_000;
 
     /// Holds our totals after every line of a log to the plain ones, our
     /// answers to all lines to the expected ones, and the list of our groups to

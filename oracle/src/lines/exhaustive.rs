@@ -162,30 +162,48 @@ fn single_bytes() -> Part {
 /// Every short decimal, at one of its places after another.
 fn short_decimals() -> Part {
     Part::listed("short decimals", SHORT_DECIMALS, |index, line| {
-        let body = DECIMALS[(index % DECIMALS.len() as u64) as usize];
-        at_the_mark(line, body, |line| put_short_decimal(line, index));
+        let decimal = ShortDecimal::of(index);
+        // A whole PDOP would be a satellite.
+        let places = DECIMALS.len() as u64 - u64::from(decimal.decimals == 0);
+        let body = DECIMALS[(index % places) as usize];
+        at_the_mark(line, body, |line| decimal.put(line));
     })
 }
 
-/// Appends the short decimal of that number among all.
-fn put_short_decimal(line: &mut Vec<u8>, index: u64) {
-    let mut index = index;
-    for digits in 1..=DIGITS {
-        let forms = u64::from(digits);
-        let texts = forms * 10u64.pow(digits);
-        if index < texts {
-            let (number, decimals) = (index / forms, (index % forms) as u32);
-            let power = 10u64.pow(decimals);
-            put_whole(line, number / power, (digits - decimals) as usize);
-            if decimals > 0 {
-                line.push(b'.');
-                put_whole(line, number % power, decimals as usize);
+/// A text of so many digits, of which some stand behind the point.
+struct ShortDecimal {
+    number: u64,
+    digits: u32,
+    decimals: u32,
+}
+
+impl ShortDecimal {
+    /// The one of that number among all.
+    fn of(mut index: u64) -> Self {
+        for digits in 1..=DIGITS {
+            let forms = u64::from(digits);
+            let texts = forms * 10u64.pow(digits);
+            if index < texts {
+                return ShortDecimal {
+                    number: index / forms,
+                    digits,
+                    decimals: (index % forms) as u32,
+                };
             }
-            return;
+            index -= texts;
         }
-        index -= texts;
+        panic!("there are not so many short decimals");
     }
-    panic!("there are not so many short decimals");
+
+    fn put(&self, line: &mut Vec<u8>) {
+        let power = 10u64.pow(self.decimals);
+        let whole = self.digits - self.decimals;
+        put_whole(line, self.number / power, whole as usize);
+        if self.decimals > 0 {
+            line.push(b'.');
+            put_whole(line, self.number % power, self.decimals as usize);
+        }
+    }
 }
 
 /// Appends a number as bytes, each below the bound.
@@ -221,7 +239,7 @@ mod tests {
     use std::collections::HashSet;
 
     use super::*;
-    use crate::{is_plain, lines::Batch, Limits};
+    use crate::{crate_answer, is_plain, lines::Batch, Limits};
 
     #[test]
     fn short_decimals_are_as_many_as_their_digits_and_points_give() {
@@ -233,7 +251,7 @@ mod tests {
     fn every_short_decimal_comes_once() {
         let text = |index| {
             let mut text = vec![];
-            put_short_decimal(&mut text, index);
+            ShortDecimal::of(index).put(&mut text);
             String::from_utf8(text).unwrap()
         };
         // All texts of up to five digits, and the last of all.
@@ -241,6 +259,15 @@ mod tests {
         assert_eq!(few.len(), 543_210);
         assert!(few.iter().all(|text| is_plain(text, Limits::Short)));
         assert_eq!(text(SHORT_DECIMALS - 1), "9.999999");
+    }
+
+    #[test]
+    fn every_short_decimal_is_read_as_one() {
+        let mut batch = Batch::default();
+        short_decimals().fill(0..50_000, &mut batch);
+        for line in batch.lines() {
+            assert_eq!(crate_answer(line).number(), 0, "{}", line.escape_ascii());
+        }
     }
 
     #[test]

@@ -91,13 +91,13 @@ pub(super) const THREE_BYTES: [&str; 20] = [
     "GPGSV,3,1,11,03,03,111,00???",
 ];
 
-/// The places of short decimals; the variation has two.
+/// The places of short decimals; the variation has two, and PDOP is the last.
 pub(super) const DECIMALS: [&str; 7] = [
     "GPRMC,,A,,,,,?,,,,",
     "GPRMC,,A,,,,,,?,,,",
     "GPRMC,,A,,,,,,,,?,E",
     "GPRMC,,A,,,,,,,,?,W",
-    "GPGSA,A,3,16,?,2.1,2.2",
     "GPGSA,A,3,16,3.6,?,2.2",
     "GPGSA,A,3,16,3.6,2.1,?",
+    "GPGSA,A,3,16,?,2.1,2.2",
 ];

@@ -159,13 +159,13 @@ fn single_bytes() -> Part {
     })
 }
 
-/// Every short decimal, at one of its places after another.
+/// Every short decimal, its point anywhere, at one place after another.
 fn short_decimals() -> Part {
     Part::listed("short decimals", SHORT_DECIMALS, |index, line| {
         let decimal = ShortDecimal::of(index);
         // A whole PDOP would be a satellite.
         let places = DECIMALS.len() as u64 - u64::from(decimal.decimals == 0);
-        let body = DECIMALS[(index % places) as usize];
+        let body = DECIMALS[(decimal.number % places) as usize];
         at_the_mark(line, body, |line| decimal.put(line));
     })
 }
@@ -265,9 +265,30 @@ mod tests {
     fn every_short_decimal_is_read_as_one() {
         let mut batch = Batch::default();
         short_decimals().fill(0..50_000, &mut batch);
+        // Each count of decimals comes to each place, a whole PDOP alone to none.
+        let mut kinds = HashSet::new();
         for line in batch.lines() {
             assert_eq!(crate_answer(line).number(), 0, "{}", line.escape_ascii());
+            kinds.insert(kind(line));
         }
+        assert_eq!(kinds.len(), 7 * DECIMALS.len() - 1);
+    }
+
+    /// The place of a line's decimal, and how many digits it has behind the point.
+    fn kind(line: &[u8]) -> (usize, usize) {
+        let line = str::from_utf8(line).unwrap();
+        let body = &line[1..line.len() - 3];
+        let text = |mark: &str| {
+            let (before, after) = mark.split_once('?')?;
+            let text = body.strip_prefix(before)?.strip_suffix(after)?;
+            is_plain(text, Limits::Short).then_some(text)
+        };
+        let place = DECIMALS
+            .iter()
+            .position(|mark| text(mark).is_some())
+            .unwrap();
+        let decimals = text(DECIMALS[place]).unwrap().split_once('.');
+        (place, decimals.map_or(0, |(_, decimals)| decimals.len()))
     }
 
     #[test]

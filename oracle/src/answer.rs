@@ -32,15 +32,55 @@ impl Answer {
         }
     }
 
-    /// The type of an accepted line, or the refusal.
-    pub fn class(&self) -> String {
-        match self {
-            Answer::Rmc(_) => "RMC".into(),
-            Answer::Gsa(_) => "GSA".into(),
-            Answer::Gsv(_) => "GSV".into(),
-            Answer::Other(_) => "Other".into(),
-            Answer::Refused(refusal) => format!("{} {}", refusal.number(), refusal.name()),
-        }
+    /// Which of the classes it is of.
+    pub fn class(&self) -> Class {
+        Class(match self {
+            Answer::Refused(refusal) => refusal.number() - 1,
+            Answer::Rmc(_) => 11,
+            Answer::Gsa(_) => 12,
+            Answer::Gsv(_) => 13,
+            Answer::Other(_) => 14,
+        })
+    }
+}
+
+/// The type of an accepted line, or the refusal.
+#[derive(Clone, Copy, Debug, PartialEq, Eq, PartialOrd, Ord)]
+pub struct Class(u8);
+
+impl Class {
+    const NAMES: [&str; 15] = [
+        "1 BadUtf8",
+        "2 NotAscii",
+        "3 TooLong",
+        "4 Syntax",
+        "5 UnknownType",
+        "6 Checksum",
+        "7 UnknownTalker",
+        "8 SystemMismatch",
+        "9 Number",
+        "10 WrongHeader",
+        "11 BadTime",
+        "RMC",
+        "GSA",
+        "GSV",
+        "Other",
+    ];
+
+    /// How many there are.
+    pub const COUNT: usize = Class::NAMES.len();
+
+    pub fn all() -> impl Iterator<Item = Class> {
+        (0..Class::COUNT as u8).map(Class)
+    }
+
+    /// Its number among all.
+    pub fn index(self) -> usize {
+        self.0.into()
+    }
+
+    pub fn name(self) -> &'static str {
+        Class::NAMES[self.index()]
     }
 }
 
@@ -53,6 +93,23 @@ pub enum System {
     Beidou,
     NavIc,
     Qzss,
+}
+
+impl System {
+    /// By their numbers, from 1 on.
+    pub const ALL: [System; 6] = [
+        System::Gps,
+        System::Glonass,
+        System::Galileo,
+        System::Beidou,
+        System::NavIc,
+        System::Qzss,
+    ];
+
+    /// The system's number in docs/ABI.md.
+    pub fn number(self) -> u8 {
+        1 + self as u8
+    }
 }
 
 impl From<GnssType> for System {

@@ -176,11 +176,17 @@ impl From<WholeEntry> for Entry {
 }
 
 /// The digits of a plain decimal as a whole number, and how many of them
-/// stand after the point.
+/// stand after the point. None of an empty text.
 fn digits(text: &str) -> Option<(u64, u32)> {
-    let decimals = text
-        .split_once('.')
-        .map_or(0, |(_, decimals)| decimals.len());
-    let digits = text.replace('.', "").parse().ok()?;
-    Some((digits, decimals as u32))
+    let (mut number, mut decimals, mut is_behind_point) = (0u64, 0, false);
+    for byte in text.bytes() {
+        if byte == b'.' {
+            is_behind_point = true;
+            continue;
+        }
+        let digit = char::from(byte).to_digit(10)?;
+        number = number.checked_mul(10)?.checked_add(digit.into())?;
+        decimals += u32::from(is_behind_point);
+    }
+    (!text.is_empty()).then_some((number, decimals))
 }

@@ -1,32 +1,47 @@
 use std::str::{self, FromStr};
 
+use crate::known::LONGEST;
+
 /// The data of a framed line, cut at every comma.
 pub(crate) struct Fields<'a> {
-    pub(crate) name: &'a str,
-    fields: Vec<&'a str>,
+    name: &'a str,
+    data: &'a str,
+    /// Where each field ends.
+    ends: [u8; LONGEST],
+    count: usize,
 }
 
 impl<'a> Fields<'a> {
     pub(crate) fn of(line: &'a [u8]) -> Option<Self> {
-        let line = str::from_utf8(line).ok().filter(|line| line.is_ascii())?;
+        let line = str::from_utf8(line).ok()?;
+        if !line.is_ascii() || line.len() > LONGEST {
+            return None;
+        }
         let (data, _) = line.get(7..)?.split_once('*')?;
-        Some(Fields {
+        let mut fields = Fields {
             name: &line[3..6],
-            fields: data.split(',').collect(),
-        })
+            data,
+            ends: [0; LONGEST],
+            count: 0,
+        };
+        let commas = data.bytes().enumerate().filter(|&(_, byte)| byte == b',');
+        for end in commas.map(|(at, _)| at).chain([data.len()]) {
+            fields.ends[fields.count] = end as u8;
+            fields.count += 1;
+        }
+        Some(fields)
     }
 
     /// A field's text, empty if it is not there.
     pub(crate) fn get(&self, index: usize) -> &'a str {
-        self.fields.get(index).copied().unwrap_or_default()
-    }
-
-    /// The data before a field, with the comma between.
-    pub(crate) fn before(&self, index: usize) -> String {
-        self.fields[..index]
-            .iter()
-            .map(|field| format!("{field},"))
-            .collect()
+        if index >= self.count {
+            return "";
+        }
+        let start = match index {
+            0 => 0,
+            _ => 1 + usize::from(self.ends[index - 1]),
+        };
+        &self.data[start..self.ends[index].into()]
     }
 
     /// Speed, course and variation, or PDOP, HDOP and VDOP.
@@ -40,24 +55,18 @@ impl<'a> Fields<'a> {
     }
 
     /// Where PDOP stands in GSA: behind the items. None if there are no DOPs.
-    pub(crate) fn pdop(&self) -> Option<usize> {
-        let rest = self.fields.get(2..)?;
-        let (last, commas) = rest.split_last()?;
-        let is_empty_tail = !commas.is_empty()
-            && commas.iter().all(|text| text.is_empty())
-            && (last.is_empty() || is_number::<u8>(last));
-        if is_empty_tail {
-            return None;
-        }
+    fn pdop(&self) -> Option<usize> {
         // An item has its comma, so that the last field is none.
-        let items = commas
-            .iter()
-            .take_while(|text| text.is_empty() || is_number::<u32>(text));
-        Some(2 + items.count())
+        let last = self.count - 1;
+        let is_empty_tail = last > 2
+            && (2..last).all(|index| self.get(index).is_empty())
+            && is_number_or_nothing::<u8>(self.get(last));
+        let items = (2..last).take_while(|&index| is_number_or_nothing::<u32>(self.get(index)));
+        (!is_empty_tail).then(|| 2 + items.count())
     }
 }
 
-/// Digits whose number is within the range of the type.
-fn is_number<T: FromStr>(text: &str) -> bool {
-    text.bytes().all(|byte| byte.is_ascii_digit()) && text.parse::<T>().is_ok()
+/// Nothing, or digits whose number is within the range of the type.
+fn is_number_or_nothing<T: FromStr>(text: &str) -> bool {
+    text.is_empty() || text.bytes().all(|byte| byte.is_ascii_digit()) && text.parse::<T>().is_ok()
 }

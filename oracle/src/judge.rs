@@ -1,6 +1,4 @@
-use crate::{
-    exact::Exact, known::has_unknown_type, number::wrong_decimal, Answer, OursAnswer, Refusal,
-};
+use crate::{exact::Exact, owed, Answer, OursAnswer, Refusal};
 
 /// Where a line stands that has the answers it must have.
 #[derive(Clone, Copy, Debug, PartialEq, Eq)]
@@ -19,36 +17,18 @@ pub enum Domain {
 /// Number would else be excused, and so would one that accepts, as the crate
 /// does, what document 01 refuses.
 pub fn judge(line: &[u8], ours: &OursAnswer, theirs: &Answer) -> Result<Domain, String> {
-    let is_unknown = ours.answer == Answer::Refused(Refusal::UnknownType);
-    match (is_unknown, has_unknown_type(line)) {
-        (true, false) => return Err("we answer UnknownType, and no unknown type is there".into()),
-        (false, true) => return Err("the type is unknown, and we answer otherwise".into()),
-        _ => {}
+    let owed = owed(line);
+    if owed.as_ref() != outside_of(&ours.answer) {
+        return Err(match owed {
+            Some(refusal) => format!("by the text alone the answer is {refusal:?}"),
+            None => "by the text alone the answer is neither Number nor UnknownType".into(),
+        });
     }
-    let is_number = ours.answer == Answer::Refused(Refusal::Number);
-    match (is_number, wrong_decimal(line)) {
-        (true, None) => return Err("we answer Number, and no wrong decimal is reached".into()),
-        (false, Some(text)) => {
-            return Err(format!(
-                "{text:?} is no plain decimal, and we do not answer Number"
-            ))
-        }
-        _ => {}
-    }
-
-    if is_unknown {
-        return outside(matches!(
-            theirs,
-            Answer::Other(_) | Answer::Refused(Refusal::Checksum { .. } | Refusal::Syntax)
-        ));
-    }
-    if is_number {
-        return outside(matches!(
-            theirs,
-            Answer::Rmc(_)
-                | Answer::Gsa(_)
-                | Answer::Refused(Refusal::Syntax | Refusal::SystemMismatch { .. })
-        ));
+    if let Some(refusal) = owed {
+        return match is_listed(&refusal, theirs) {
+            true => Ok(Domain::Outside),
+            false => Err("docs/DIFFERENCES.md lists no such class".into()),
+        };
     }
     if ours.answer != *theirs {
         return Err("the answers differ".into());
@@ -64,10 +44,26 @@ pub fn judge(line: &[u8], ours: &OursAnswer, theirs: &Answer) -> Result<Domain, 
     }
 }
 
-fn outside(is_listed: bool) -> Result<Domain, String> {
-    if is_listed {
-        Ok(Domain::Outside)
-    } else {
-        Err("docs/DIFFERENCES.md lists no such class".into())
+/// The refusal of an answer that puts its line outside the domain.
+fn outside_of(answer: &Answer) -> Option<&Refusal> {
+    match answer {
+        Answer::Refused(refusal @ (Refusal::Number | Refusal::UnknownType)) => Some(refusal),
+        _ => None,
+    }
+}
+
+/// Whether docs/DIFFERENCES.md has the crate answer so where we refuse.
+fn is_listed(ours: &Refusal, theirs: &Answer) -> bool {
+    match ours {
+        Refusal::UnknownType => matches!(
+            theirs,
+            Answer::Other(_) | Answer::Refused(Refusal::Checksum { .. } | Refusal::Syntax)
+        ),
+        _ => matches!(
+            theirs,
+            Answer::Rmc(_)
+                | Answer::Gsa(_)
+                | Answer::Refused(Refusal::Syntax | Refusal::SystemMismatch { .. })
+        ),
     }
 }

@@ -1,16 +1,25 @@
 //! The lines that both sides are asked.
 
+mod batch;
 mod corpus;
 mod damage;
+mod draft;
+mod exhaustive;
 mod generator;
 mod gsa;
 mod gsv;
+mod log;
+mod part;
 mod random;
 mod rmc;
 mod sentence;
 mod texts;
 mod worked;
 
-pub use corpus::{corpus_lines, corpus_logs};
+pub use batch::Batch;
+pub use corpus::{corpus, corpus_lines, CorpusLog};
+pub use exhaustive::{exhaustive_parts, SHORT_DECIMALS};
 pub use generator::Generator;
-pub use worked::worked_lines;
+pub use log::generated_log;
+pub use part::Part;
+pub use worked::{comment_lines, worked_lines};

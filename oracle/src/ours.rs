@@ -4,7 +4,7 @@ use std::{
     thread,
 };
 
-use crate::{program::Program, words::WORDS, Words};
+use crate::{lines::Batch, program::Program, words::WORDS, Words};
 
 /// The longest line that the program takes.
 pub const LONGEST_FRAME: usize = 4096;
@@ -12,32 +12,72 @@ pub const LONGEST_FRAME: usize = 4096;
 /// The bytes of one answer.
 const ANSWER_BYTES: usize = 8 * WORDS;
 
-/// Our proved reader, as the program `answers`: it reads lines from its
-/// standard input, each after its length in two bytes, the low one first, and
-/// writes the words of docs/ABI.md for each.
+/// Our proved reader.
 #[derive(Clone, Debug)]
-pub struct Ours {
-    program: Program,
+pub enum Ours {
+    /// A function of this process.
+    Called(fn(&[u8]) -> Words),
+    /// The program `answers`: it reads lines from its standard input, each
+    /// after its length in two bytes, the low one first, and writes the words
+    /// of docs/ABI.md for each.
+    Piped(Piped),
 }
 
+/// How the program is run.
+#[derive(Clone, Debug)]
+pub struct Piped(Program);
+
 impl Ours {
-    /// Finds the program, or says what is missing.
+    /// The reader in this process, where it can be linked. A program is asked
+    /// instead if the environment names one, and elsewhere.
     pub fn find() -> Result<Self, String> {
-        Program::find("answers").map(|program| Ours { program })
+        #[cfg(target_arch = "x86_64")]
+        if std::env::var_os("NMEA_ANSWERS").is_none() {
+            return Ok(Ours::Called(linked));
+        }
+        Ours::piped()
     }
 
-    /// Our answers to a batch of lines. Each batch is a run of its own to the
-    /// end of its input, so that nothing hangs on how the program buffers.
-    pub fn answers(&self, lines: &[Vec<u8>]) -> io::Result<Vec<Words>> {
+    /// The program, or what is missing of it.
+    pub fn piped() -> Result<Self, String> {
+        Program::find("answers").map(|program| Ours::Piped(Piped(program)))
+    }
+
+    /// Our answers to some lines.
+    pub fn answers(&self, lines: &Batch) -> io::Result<Vec<Words>> {
+        match self {
+            Ours::Called(answer) => Ok(lines.lines().map(answer).collect()),
+            Ours::Piped(program) => program.answers(lines),
+        }
+    }
+}
+
+/// The answer of the reader that is linked into this process. Line and words
+/// stand on the heap alone, so that a memory checker sees what is read or
+/// written beyond them.
+#[cfg(target_arch = "x86_64")]
+pub fn linked(line: &[u8]) -> Words {
+    let line: Box<[u8]> = line.into();
+    // A word that is left as it was is found, as no answer has one like it.
+    let mut words = Box::new([u64::MAX; WORDS]);
+    let wrote = proved_nmea::abi::answer(&line, words.as_mut_slice());
+    assert_eq!(wrote, 1, "40 words are enough for every answer");
+    *words
+}
+
+impl Piped {
+    /// Each batch is a run of its own to the end of its input, so that nothing
+    /// hangs on how the program buffers.
+    fn answers(&self, lines: &Batch) -> io::Result<Vec<Words>> {
+        let Piped(program) = self;
         let frames = frames(lines)?;
-        let mut child = self
-            .program
+        let mut child = program
             .command()
             .stdin(Stdio::piped())
             .stdout(Stdio::piped())
             .spawn()
             .map_err(|error| {
-                let message = format!("{} does not start: {error}", self.program);
+                let message = format!("{program} does not start: {error}");
                 io::Error::new(error.kind(), message)
             })?;
         let mut input = child.stdin.take().expect("its input is a pipe");
@@ -55,7 +95,7 @@ impl Ours {
 
         let answered = bytes.len() / ANSWER_BYTES;
         if !status.success() || bytes.len() != lines.len() * ANSWER_BYTES {
-            let next = lines.get(answered).map_or(String::new(), |line| {
+            let next = lines.lines().nth(answered).map_or(String::new(), |line| {
                 format!("; the next line is \"{}\"", line.escape_ascii())
             });
             return Err(io::Error::other(format!(
@@ -68,9 +108,9 @@ impl Ours {
     }
 }
 
-fn frames(lines: &[Vec<u8>]) -> io::Result<Vec<u8>> {
+fn frames(lines: &Batch) -> io::Result<Vec<u8>> {
     let mut frames = vec![];
-    for line in lines {
+    for line in lines.lines() {
         if line.len() > LONGEST_FRAME {
             let message = format!("a line of {} bytes fits no frame", line.len());
             return Err(io::Error::new(io::ErrorKind::InvalidInput, message));

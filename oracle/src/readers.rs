@@ -3,7 +3,7 @@ use std::str;
 use nmea::{
     parse_bytes, parse_nmea_sentence,
     sentences::{parse_gsa, parse_gsv, parse_rmc},
-    Error, NmeaSentence, ParseResult, SentenceType,
+    Error, NmeaSentence, ParseResult,
 };
 
 use crate::{Answer, Gsa, Gsv, Refusal, Rmc};
@@ -36,27 +36,6 @@ pub fn crate_gsa(line: &[u8]) -> Result<Gsa, Refusal> {
 /// What the crate's reader of GSV alone answers to a line.
 pub fn crate_gsv(line: &[u8]) -> Result<Gsv, Refusal> {
     read_one(line, parse_gsv)
-}
-
-/// Whether the crate frames a line and finds its checksum right.
-pub(crate) fn is_framed(line: &[u8]) -> bool {
-    checked(line).is_ok()
-}
-
-/// Whether the crate's reader of RMC or GSA accepts data, of any length.
-pub(crate) fn reads_data(name: &str, data: &str) -> bool {
-    // This talker names no system that could be at odds with the data's.
-    let sentence = |message_id| NmeaSentence {
-        talker_id: "GN",
-        message_id,
-        data,
-        checksum: 0,
-    };
-    match name {
-        "RMC" => parse_rmc(sentence(SentenceType::RMC)).is_ok(),
-        "GSA" => parse_gsa(sentence(SentenceType::GSA)).is_ok(),
-        _ => false,
-    }
 }
 
 fn read_one<'a, Data, Record: From<Data>>(

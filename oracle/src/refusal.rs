@@ -39,23 +39,6 @@ impl Refusal {
         }
     }
 
-    /// The refusal's name in document 01.
-    pub fn name(&self) -> &'static str {
-        match self {
-            Refusal::BadUtf8 => "BadUtf8",
-            Refusal::NotAscii => "NotAscii",
-            Refusal::TooLong(_) => "TooLong",
-            Refusal::Syntax => "Syntax",
-            Refusal::UnknownType => "UnknownType",
-            Refusal::Checksum { .. } => "Checksum",
-            Refusal::UnknownTalker(_) => "UnknownTalker",
-            Refusal::SystemMismatch { .. } => "SystemMismatch",
-            Refusal::Number => "Number",
-            Refusal::WrongHeader { .. } => "WrongHeader",
-            Refusal::BadTime => "BadTime",
-        }
-    }
-
     /// The refusal that stands for an error of the crate.
     ///
     /// # Panics

@@ -1,6 +1,6 @@
 use std::io;
 
-use crate::repaired;
+use crate::{lines::Batch, repaired};
 
 /// The line with as many bytes dropped as can be while the sides differ.
 ///
@@ -8,16 +8,16 @@ use crate::repaired;
 /// that is tried at once is one batch.
 pub(crate) fn shrink(
     line: &[u8],
-    mut differing: impl FnMut(&[Vec<u8>]) -> io::Result<Option<usize>>,
+    mut differing: impl FnMut(&Batch) -> io::Result<Option<usize>>,
 ) -> io::Result<Vec<u8>> {
     let mut line = line.to_vec();
     let mut size = line.len() / 2;
     while size > 0 {
-        let shorter: Vec<Vec<u8>> = (0..=line.len().saturating_sub(size))
+        let shorter: Batch = (0..=line.len().saturating_sub(size))
             .flat_map(|start| without(&line, start, size))
             .collect();
         match differing(&shorter)? {
-            Some(index) => line = shorter[index].clone(),
+            Some(index) => line = shorter.line(index).to_vec(),
             None => size /= 2,
         }
         size = size.min(line.len());
@@ -41,7 +41,7 @@ mod tests {
     fn bytes_that_do_not_matter_go() {
         let matters = |line: &[u8]| line.starts_with(b"$") && line.contains(&b'x');
         let smallest = shrink(b"$GPTXT,abcxabc*00", |lines| {
-            Ok(lines.iter().position(|line| matters(line)))
+            Ok(lines.lines().position(matters))
         });
         assert_eq!(smallest.unwrap(), b"$x");
     }
@@ -50,9 +50,7 @@ mod tests {
     fn a_right_checksum_is_kept() {
         let matters = |line: &[u8]| crate_answer(line).number() == 0 && line.contains(&b'x');
         let line = with_checksum("GPTXT,abcxabc");
-        let smallest = shrink(line.as_bytes(), |lines| {
-            Ok(lines.iter().position(|line| matters(line)))
-        });
+        let smallest = shrink(line.as_bytes(), |lines| Ok(lines.lines().position(matters)));
         assert_eq!(smallest.unwrap(), with_checksum("GPTXT,x").as_bytes());
     }
 }

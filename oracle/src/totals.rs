@@ -1,4 +1,5 @@
-//! What our program `nmea_log` prints of a log.
+//! What our proved walk counts in a log: linked into this process, and as the
+//! program `nmea_log` prints it.
 
 use std::{
     error::Error,
@@ -50,4 +51,25 @@ pub fn totals_of_file(file: File) -> Result<Printed, Box<dyn Error>> {
         .stdin(Stdio::from(file))
         .output()?;
     Printed::of(output)
+}
+
+/// The totals by the walk that is linked into this process, or the refusal's
+/// number. Log and totals stand on the heap alone, as the lines do.
+#[cfg(target_arch = "x86_64")]
+pub fn linked_totals(log: &[u8]) -> Result<crate::Totals, u32> {
+    let log: Box<[u8]> = log.into();
+    let mut totals = Box::new([u64::MAX; proved_nmea::abi::TOTALS]);
+    match proved_nmea::abi::walk(&log, totals.as_mut_slice()) {
+        0 => {
+            let [lines, blank, accepted, refused, groups] = *totals;
+            Ok(crate::Totals {
+                lines,
+                blank,
+                accepted,
+                refused,
+                groups,
+            })
+        }
+        refusal => Err(refusal),
+    }
 }

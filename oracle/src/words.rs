@@ -1,11 +1,13 @@
 //! Our answer's words, by docs/ABI.md, in the crate's terms.
 
 mod reader;
+mod writer;
 
 use crate::{
     Answer, Coordinate, Date, Decimal, Entry, Exact, Gsa, Gsv, Refusal, Rmc, Time, WholeEntry,
 };
 use reader::Reader;
+pub use writer::words_of;
 
 pub const WORDS: usize = 40;
 

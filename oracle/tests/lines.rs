@@ -1,8 +1,8 @@
 //! The generated lines: the same from the same seed, and of every kind.
 
-use std::collections::BTreeMap;
+use std::collections::{BTreeMap, HashSet};
 
-use oracle::{crate_answer, lines::Generator, LONGEST_FRAME};
+use oracle::{crate_answer, lines::Generator, Class, LONGEST_FRAME};
 
 #[test]
 fn a_seed_gives_the_same_lines() {
@@ -12,8 +12,18 @@ fn a_seed_gives_the_same_lines() {
 }
 
 #[test]
+fn blocks_and_seeds_share_few_lines() {
+    let lines = |seed, block| Generator::of_block(seed, block).take(1000);
+    let all: HashSet<Vec<u8>> = (0..10)
+        .flat_map(|seed| (0..10).flat_map(move |block| lines(seed, 1000 * block)))
+        .collect();
+    // What comes again is short, or a worked line with little damage.
+    assert!(all.len() > 90_000, "{}", all.len());
+}
+
+#[test]
 fn every_answer_is_reached() {
-    let mut classes: BTreeMap<String, usize> = BTreeMap::new();
+    let mut classes: BTreeMap<Class, usize> = BTreeMap::new();
     let mut lengths: BTreeMap<usize, usize> = BTreeMap::new();
     for line in Generator::new(1).take(20_000) {
         assert!(line.len() <= LONGEST_FRAME);
@@ -28,12 +38,13 @@ fn every_answer_is_reached() {
         "6 Checksum",
         "7 UnknownTalker",
         "8 SystemMismatch",
+        "RMC",
         "GSA",
         "GSV",
         "Other",
-        "RMC",
     ];
-    assert!(classes.keys().eq(all), "{classes:?}");
+    let names = classes.keys().map(|class| class.name());
+    assert!(names.eq(all), "{classes:?}");
     assert!(classes.values().all(|&count| count > 100), "{classes:?}");
     for length in [101, 102, 103] {
         assert!(lengths[&length] > 100, "{lengths:?}");

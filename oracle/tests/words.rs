@@ -1,7 +1,11 @@
 //! The comparison itself: words written by hand from docs/ABI.md stand, and
 //! no word of them can be changed without being found.
 
-use oracle::{answer_of, crate_answer, judge, with_checksum, Domain, Words};
+use oracle::{
+    answer_of, crate_answer, expected, judge,
+    lines::{exhaustive_parts, worked_lines, Batch, Generator},
+    with_checksum, words_of, Answer, Domain, Exact, OursAnswer, Refusal, System, Words,
+};
 
 const RMC: &str = "$GNRMC,101500.25,A,5130.5,N,00006.0,W,4.5,270.0,290224,,,A*5F";
 const WEST: &str = "$GPRMC,,A,,,,,,,,0,W*41";
@@ -33,6 +37,7 @@ fn f32_bits(float: f32) -> u64 {
 fn only(line: impl AsRef<[u8]>, first: &[u64], domain: Domain) {
     let line = line.as_ref();
     let right = words(first);
+    assert_eq!(right, words_of(&expected(line)), "{}", line.escape_ascii());
     assert_eq!(verdict(line, &right), Ok(domain), "{}", line.escape_ascii());
     for index in 0..right.len() {
         let word = right[index];
@@ -159,5 +164,58 @@ fn number_is_answered_exactly_where_a_wrong_decimal_is_reached() {
         let line = line.as_bytes();
         assert_eq!(verdict(line, &syntax), Ok(Domain::Inside), "{body}");
         assert!(verdict(line, &number).is_err(), "{body}");
+    }
+}
+
+#[test]
+fn words_that_are_written_are_read_as_the_answer() {
+    let mut lines: Batch = worked_lines()
+        .into_iter()
+        .chain(Generator::new(5).take(50_000))
+        .collect();
+    for part in exhaustive_parts() {
+        part.fill(0..5_000, &mut lines);
+    }
+    for line in lines.lines() {
+        let answer = expected(line);
+        let read = answer_of(&words_of(&answer));
+        assert_eq!(read, Ok(answer), "{}", line.escape_ascii());
+    }
+}
+
+#[test]
+fn refusals_that_are_written_are_read() {
+    let refusals = [
+        Refusal::BadUtf8,
+        Refusal::NotAscii,
+        Refusal::TooLong(103),
+        Refusal::Syntax,
+        Refusal::UnknownType,
+        Refusal::Checksum {
+            calculated: 50,
+            found: 51,
+        },
+        Refusal::UnknownTalker(*b"GN"),
+        Refusal::SystemMismatch {
+            talker: System::Gps,
+            tail: System::Beidou,
+        },
+        Refusal::Number,
+        // No line leads to the last two: the first is for readers of one type,
+        // and the limits of the seconds leave no room for the second.
+        Refusal::WrongHeader {
+            expected: *b"RMC",
+            found: *b"GSA",
+        },
+        Refusal::BadTime,
+    ];
+    for (refusal, number) in refusals.into_iter().zip(1..) {
+        let answer = OursAnswer {
+            answer: Answer::Refused(refusal),
+            exact: Exact::default(),
+        };
+        let words = words_of(&answer);
+        assert_eq!(words[..2], [5, number]);
+        assert_eq!(answer_of(&words), Ok(answer));
     }
 }

@@ -3,15 +3,17 @@ use std::{
     path::{Path, PathBuf},
 };
 
-/// The lines of the logs in the corpus.
-pub fn corpus_lines() -> io::Result<Vec<Vec<u8>>> {
-    let logs = corpus_logs()?;
-    Ok(logs.iter().flat_map(|log| lines_of(log)).collect())
+use crate::Log;
+
+/// A log of the corpus.
+pub struct CorpusLog {
+    pub name: String,
+    pub bytes: Vec<u8>,
 }
 
-/// The logs in the corpus: those of the folder that the variable NMEA_CORPUS
+/// The logs of the corpus: those of the folder that the variable NMEA_CORPUS
 /// names, else of the one beside the repository.
-pub fn corpus_logs() -> io::Result<Vec<Vec<u8>>> {
+pub fn corpus() -> io::Result<Vec<CorpusLog>> {
     let folder = match env::var_os("NMEA_CORPUS") {
         Some(folder) => PathBuf::from(folder),
         None => Path::new(env!("CARGO_MANIFEST_DIR")).join("../../shared/corpus"),
@@ -31,18 +33,21 @@ pub fn corpus_logs() -> io::Result<Vec<Vec<u8>>> {
         }
     }
     logs.sort();
-    logs.iter().map(fs::read).collect()
+    logs.into_iter()
+        .map(|path| {
+            Ok(CorpusLog {
+                name: path.display().to_string(),
+                bytes: fs::read(path)?,
+            })
+        })
+        .collect()
 }
 
-/// The lines of a log: each ends at a line feed or the end, and one carriage
-/// return before that is dropped. An empty last stretch is no line.
-fn lines_of(log: &[u8]) -> Vec<Vec<u8>> {
-    let mut lines: Vec<&[u8]> = log.split(|&byte| byte == b'\n').collect();
-    if lines.last().is_some_and(|line| line.is_empty()) {
-        lines.pop();
+/// The lines of all these logs.
+pub fn corpus_lines() -> io::Result<Vec<Vec<u8>>> {
+    let mut lines = vec![];
+    for log in corpus()? {
+        lines.extend(Log::of(&log.bytes).lines.into_iter().map(<[u8]>::to_vec));
     }
-    lines
-        .into_iter()
-        .map(|line| line.strip_suffix(b"\r").unwrap_or(line).to_vec())
-        .collect()
+    Ok(lines)
 }

@@ -1,7 +1,7 @@
 //! Lines as a bad cable leaves them.
 
-use super::random::Random;
-use crate::repaired;
+use super::draft::Draft;
+use crate::repair;
 
 /// Bytes that mean something somewhere in a sentence.
 const MEANINGFUL: &[u8] = b",,,,*$.+-0123456789ABDEGLMNPQRSVW \r\n\0";
@@ -44,70 +44,66 @@ const INVALID: [&[u8]; 20] = [
     b"\xFF",
 ];
 
-/// The line with one fault or two.
-pub(super) fn damaged(random: &mut Random, mut line: Vec<u8>) -> Vec<u8> {
-    for _ in 0..random.between(1, 2) {
-        hurt(random, &mut line);
+impl Draft {
+    /// One fault in the line, or two.
+    pub(super) fn damage(&mut self) {
+        for _ in 0..self.random.between(1, 2) {
+            self.hurt();
+        }
+        // With a right checksum the fault comes to the readers of the data.
+        if !self.random.one_in(3) {
+            repair(&mut self.line);
+        }
     }
-    // With a right checksum the fault comes to the readers of the data.
-    match repaired(&line) {
-        Some(line) if !random.one_in(3) => line,
-        _ => line,
-    }
-}
 
-fn hurt(random: &mut Random, line: &mut Vec<u8>) {
-    if line.is_empty() {
-        return;
+    fn hurt(&mut self) {
+        let Draft { random, line } = self;
+        if line.is_empty() {
+            return;
+        }
+        let at = random.below(line.len());
+        match random.below(16) {
+            0..=3 => line[at] = random.pick(MEANINGFUL),
+            4 => line[at] = random.byte(0, 127),
+            5 => line[at] = random.byte(0, 255),
+            6..=8 => drop(line.remove(at)),
+            9 | 10 => line.insert(at, line[at]),
+            11 => line.insert(at, random.pick(MEANINGFUL)),
+            12 => line.truncate(at),
+            13 => {
+                let next = (at + 1) % line.len();
+                line.swap(at, next);
+            }
+            14 => {
+                let last = line.len() - 1;
+                line[last] ^= 1;
+            }
+            _ => {
+                let piece = match random.one_in(2) {
+                    true => random.pick(&VALID),
+                    false => random.pick(&INVALID),
+                };
+                line.splice(at..at, piece.iter().copied());
+            }
+        }
     }
-    let at = random.below(line.len());
-    match random.below(16) {
-        0..=3 => line[at] = MEANINGFUL[random.below(MEANINGFUL.len())],
-        4 => line[at] = random.below(128) as u8,
-        5 => line[at] = random.below(256) as u8,
-        6..=8 => {
-            line.remove(at);
-        }
-        9 | 10 => line.insert(at, line[at]),
-        11 => line.insert(at, MEANINGFUL[random.below(MEANINGFUL.len())]),
-        12 => line.truncate(at),
-        13 => {
-            let length = line.len();
-            line.swap(at, (at + 1) % length);
-        }
-        14 => {
-            let last = line.len() - 1;
-            line[last] ^= 1;
-        }
-        _ => {
-            let piece = piece(random);
-            line.splice(at..at, piece.iter().copied());
-        }
-    }
-}
 
-fn piece(random: &mut Random) -> &'static [u8] {
-    match random.one_in(2) {
-        true => random.pick(&VALID),
-        false => random.pick(&INVALID),
-    }
-}
-
-/// A line with bytes of 128 and above, of some length or just too long.
-pub(super) fn noise(random: &mut Random) -> Vec<u8> {
-    let letters = match random.below(4) {
-        0 => random.between(100, 104),
-        1 => random.below(300),
-        _ => 0,
-    };
-    let mut line = vec![b'x'; letters];
-    for _ in 0..random.below(5) {
-        match random.below(8) {
-            0 => line.push(random.below(128) as u8),
-            1 => line.push(random.below(256) as u8),
-            2 | 3 => line.extend_from_slice(random.pick(&INVALID)),
-            _ => line.extend_from_slice(random.pick(&VALID)),
+    /// A line with bytes of 128 and above, of some length or just too long.
+    pub(super) fn noise(&mut self) {
+        let letters = match self.random.below(4) {
+            0 => self.random.between(100, 104),
+            1 => self.random.below(300),
+            _ => 0,
+        };
+        self.fill(b'x', letters);
+        let Draft { random, line } = self;
+        for _ in 0..random.below(5) {
+            match random.below(8) {
+                0 => line.push(random.byte(0, 127)),
+                1 => line.push(random.byte(0, 255)),
+                2 | 3 => line.extend_from_slice(random.pick(&INVALID)),
+                _ => line.extend_from_slice(random.pick(&VALID)),
+            }
         }
     }
-    line
 }

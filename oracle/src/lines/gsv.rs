@@ -1,49 +1,48 @@
-use super::{random::Random, texts::number};
+use super::draft::Draft;
 
-/// The data of a GSV sentence.
-pub(super) fn data(random: &mut Random) -> String {
-    let head = [
-        number(random, 10, 1),
-        number(random, 10, 1),
-        number(random, 37, 2),
-    ]
-    .join(",");
-    let count = match random.below(4) {
-        0 => random.below(6),
-        1 => random.between(1, 3),
-        _ => 4,
-    };
-    let entries: Vec<String> = (0..count).map(|_| entry(random)).collect();
-    let mut data = format!("{head},{}", entries.join(","));
-    match random.below(8) {
-        // An identity of the signal, as newer receivers send it.
-        0 => data += ",1",
-        1 => data += ",",
-        2 => data += ",,,,",
-        3 if random.odd() => data += "x",
-        4 if random.odd() => {
-            // The last field goes with its comma.
-            data.truncate(data.rfind(',').unwrap_or_default());
+impl Draft {
+    /// The data of a GSV sentence.
+    pub(super) fn gsv(&mut self) {
+        self.number(10, 1);
+        self.comma();
+        self.number(10, 1);
+        self.comma();
+        self.number(37, 2);
+        self.comma();
+        let count = match self.random.below(4) {
+            0 => self.random.below(6),
+            1 => self.random.between(1, 3),
+            _ => 4,
+        };
+        for index in 0..count {
+            if index > 0 {
+                self.comma();
+            }
+            self.entry();
         }
-        _ => {}
+        match self.random.below(8) {
+            // An identity of the signal, as newer receivers send it.
+            0 => self.put(",1"),
+            1 => self.put(","),
+            2 => self.put(",,,,"),
+            3 if self.random.odd() => self.put("x"),
+            4 if self.random.odd() => {
+                // The last field goes with its comma.
+                let comma = self.line.iter().rposition(|&byte| byte == b',');
+                self.line.truncate(comma.unwrap_or_default());
+            }
+            _ => {}
+        }
     }
-    data
-}
 
-/// Satellite, elevation, azimuth and signal, where all but the first may be absent.
-fn entry(random: &mut Random) -> String {
-    [
-        number(random, 100, 2),
-        field(random, 91, 2),
-        field(random, 360, 3),
-        field(random, 100, 2),
-    ]
-    .join(",")
-}
-
-fn field(random: &mut Random, bound: usize, width: usize) -> String {
-    if random.one_in(8) {
-        return String::new();
+    /// Satellite, elevation, azimuth and signal, where all but the first may be absent.
+    fn entry(&mut self) {
+        self.number(100, 2);
+        for (bound, width) in [(91, 2), (360, 3), (100, 2)] {
+            self.comma();
+            if !self.random.one_in(8) {
+                self.number(bound, width);
+            }
+        }
     }
-    number(random, bound, width)
 }

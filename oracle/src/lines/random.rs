@@ -6,9 +6,10 @@ pub(super) struct Random {
 }
 
 impl Random {
-    pub(super) fn new(seed: u64) -> Self {
-        // The state may not be 0, and near seeds are to start far apart.
-        let state = seed.wrapping_add(1).wrapping_mul(0x9E37_79B9_7F4A_7C15) | 1;
+    /// The numbers of one block of a seed's lines.
+    pub(super) fn new(seed: u64, block: u64) -> Self {
+        // The state may not be 0, and near seeds and blocks are to start far apart.
+        let state = mixed(mixed(seed).wrapping_add(block)) | 1;
         Random { state, odd_in: 0 }
     }
 
@@ -22,7 +23,7 @@ impl Random {
 
     /// A number below the bound.
     pub(super) fn below(&mut self, bound: usize) -> usize {
-        (self.next() % bound as u64) as usize
+        ((self.next() * bound as u64) >> 32) as usize
     }
 
     /// A number from the first to the last.
@@ -30,23 +31,35 @@ impl Random {
         first + self.below(last - first + 1)
     }
 
+    /// A byte from the first to the last.
+    pub(super) fn byte(&mut self, first: u8, last: u8) -> u8 {
+        self.between(first.into(), last.into()) as u8
+    }
+
     pub(super) fn one_in(&mut self, count: usize) -> bool {
         self.below(count) == 0
     }
 
-    pub(super) fn pick<'a, T: ?Sized>(&mut self, items: &[&'a T]) -> &'a T {
+    pub(super) fn pick<T: Copy>(&mut self, items: &[T]) -> T {
         items[self.below(items.len())]
     }
 
     /// Chooses how odd the next line's fields are. A line with many odd ones
     /// is refused at its first, so that most lines have few or none.
     pub(super) fn choose_oddness(&mut self) {
-        const ODD_IN: [usize; 8] = [0, 0, 60, 25, 25, 12, 6, 2];
-        self.odd_in = ODD_IN[self.below(ODD_IN.len())];
+        self.odd_in = self.pick(&[0, 0, 60, 25, 25, 12, 6, 2]);
     }
 
     /// Whether the next field is odd.
     pub(super) fn odd(&mut self) -> bool {
         self.odd_in > 0 && self.one_in(self.odd_in)
     }
+}
+
+/// A number whose bits all hang on all of the given one's, by splitmix64.
+fn mixed(number: u64) -> u64 {
+    let number = number.wrapping_add(0x9E37_79B9_7F4A_7C15);
+    let number = (number ^ number >> 30).wrapping_mul(0xBF58_476D_1CE4_E5B9);
+    let number = (number ^ number >> 27).wrapping_mul(0x94D0_49BB_1331_11EB);
+    number ^ number >> 31
 }

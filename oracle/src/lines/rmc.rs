@@ -1,10 +1,7 @@
-use super::{
-    random::Random,
-    texts::{fixed_width, letter, long, short, short_or_none},
-};
+use super::draft::Draft;
 
-const MODES: &str = "ACDEFMNPRSU";
-const STATUSES: &str = "ADEMNSV";
+const MODES: &[u8] = b"ACDEFMNPRSU";
+const STATUSES: &[u8] = b"ADEMNSV";
 
 /// Times at their limits, and no times.
 const ODD_TIMES: [&str; 14] = [
@@ -47,96 +44,120 @@ const ODD_POSITIONS: [&str; 12] = [
     "0000,N,00000,E,",
 ];
 
-/// The data of an RMC sentence.
-pub(super) fn data(random: &mut Random) -> String {
-    [
-        time(random),
-        letter(random, "ADV"),
-        position(random),
-        short_or_none(random),
-        short_or_none(random),
-        date(random),
-        variation(random) + &ending(random),
-    ]
-    .join(",")
-}
+impl Draft {
+    /// The data of an RMC sentence.
+    pub(super) fn rmc(&mut self) {
+        self.time();
+        self.comma();
+        self.letter(b"ADV");
+        self.comma();
+        self.position();
+        self.comma();
+        self.short_or_none();
+        self.comma();
+        self.short_or_none();
+        self.comma();
+        self.date();
+        self.comma();
+        self.variation();
+        self.ending();
+    }
 
-fn time(random: &mut Random) -> String {
-    if random.odd() {
-        return random.pick(&ODD_TIMES).into();
+    fn time(&mut self) {
+        if self.random.odd() {
+            return self.one_of(&ODD_TIMES);
+        }
+        if self.random.one_in(6) {
+            return;
+        }
+        self.fixed_width(24, 2);
+        self.fixed_width(60, 2);
+        self.long();
     }
-    if random.one_in(6) {
-        return String::new();
-    }
-    fixed_width(random, 24, 2) + &fixed_width(random, 60, 2) + &long(random)
-}
 
-fn position(random: &mut Random) -> String {
-    if random.odd() {
-        return random.pick(&ODD_POSITIONS).into();
+    fn position(&mut self) {
+        if self.random.odd() {
+            return self.one_of(&ODD_POSITIONS);
+        }
+        if self.random.one_in(5) {
+            return self.put(",,,");
+        }
+        self.fixed_width(90, 2);
+        self.long();
+        self.comma();
+        self.letter(b"NS");
+        self.comma();
+        self.fixed_width(256, 3);
+        self.long();
+        self.comma();
+        self.letter(b"EW");
     }
-    if random.one_in(5) {
-        return ",,,".into();
-    }
-    [
-        fixed_width(random, 90, 2) + &long(random),
-        letter(random, "NS"),
-        fixed_width(random, 256, 3) + &long(random),
-        letter(random, "EW"),
-    ]
-    .join(",")
-}
 
-fn date(random: &mut Random) -> String {
-    if random.one_in(8) {
-        return random.pick(&ODD_DATES).into();
-    }
-    if random.one_in(6) {
-        return String::new();
-    }
-    if random.odd() {
-        // Any day of any month, there or not.
-        return format!(
-            "{:02}{:02}{:02}",
-            random.below(33),
-            random.below(14),
-            random.below(100)
-        );
-    }
-    let (day, month) = (1 + random.below(28), 1 + random.below(12));
-    format!("{day:02}{month:02}") + &fixed_width(random, 100, 2)
-}
-
-/// The variation with its letter; a comma if it is absent.
-fn variation(random: &mut Random) -> String {
-    if random.odd() {
-        return match random.below(4) {
-            0 => short(random),
-            1 => short(random) + ",",
-            2 => ",E".into(),
-            _ => String::new(),
+    fn date(&mut self) {
+        if self.random.one_in(8) {
+            return self.one_of(&ODD_DATES);
+        }
+        if self.random.one_in(6) {
+            return;
+        }
+        // Any day of any month, there or not, if it is odd.
+        let (day, month) = match self.random.odd() {
+            true => (self.random.below(33), self.random.below(14)),
+            false => (self.random.between(1, 28), self.random.between(1, 12)),
         };
+        self.whole(day, 2);
+        self.whole(month, 2);
+        self.fixed_width(100, 2);
     }
-    match random.below(8) {
-        0..=3 => ",".into(),
-        4 => "0,W".into(),
-        _ => short(random) + "," + &letter(random, "EW"),
-    }
-}
 
-/// Mode and navigational status, as far as they are there.
-fn ending(random: &mut Random) -> String {
-    match random.below(8) {
-        0 => String::new(),
-        1 => ",".into(),
-        2 => ",,".into(),
-        3 => ",,".to_string() + &letter(random, STATUSES),
-        4 | 5 => ",".to_string() + &letter(random, MODES),
-        6 => "E,A".into(),
-        _ => {
-            let both = [letter(random, MODES), letter(random, STATUSES)].join(",");
-            let rest = if random.odd() { ",1,2" } else { "" };
-            format!(",{both}{rest}")
+    /// The variation with its letter; a comma if it is absent.
+    fn variation(&mut self) {
+        if self.random.odd() {
+            return match self.random.below(4) {
+                0 => self.short(),
+                1 => {
+                    self.short();
+                    self.comma();
+                }
+                2 => self.put(",E"),
+                _ => {}
+            };
+        }
+        match self.random.below(8) {
+            0..=3 => self.comma(),
+            4 => self.put("0,W"),
+            _ => {
+                self.short();
+                self.comma();
+                self.letter(b"EW");
+            }
+        }
+    }
+
+    /// Mode and navigational status, as far as they are there.
+    fn ending(&mut self) {
+        match self.random.below(8) {
+            0 => {}
+            1 => self.put(","),
+            2 => self.put(",,"),
+            3 => {
+                self.put(",,");
+                self.letter(STATUSES);
+            }
+            4 | 5 => {
+                self.comma();
+                self.letter(MODES);
+            }
+            6 => self.put("E,A"),
+            _ => {
+                self.comma();
+                self.letter(MODES);
+                self.comma();
+                self.letter(STATUSES);
+                if self.random.odd() {
+                    self.put(",1,2");
+                }
+            }
         }
     }
 }

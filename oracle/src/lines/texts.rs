@@ -1,6 +1,6 @@
 //! The texts of single fields.
 
-use super::random::Random;
+use super::draft::Draft;
 
 /// Whole numbers at the limits of their types, and texts that are none.
 const ODD_NUMBERS: [&str; 27] = [
@@ -87,102 +87,114 @@ const ODD_DECIMALS: [&str; 50] = [
     "0.0000000005",
 ];
 
-pub(super) fn digits(random: &mut Random, count: usize) -> String {
-    (0..count)
-        .map(|_| char::from(b'0' + random.below(10) as u8))
-        .collect()
-}
-
-/// A whole number below the bound, with leading zeros to its width.
-pub(super) fn number(random: &mut Random, bound: usize, width: usize) -> String {
-    if random.odd() {
-        return random.pick(&ODD_NUMBERS).into();
+impl Draft {
+    /// A whole number below the bound, with leading zeros to its width.
+    pub(super) fn number(&mut self, bound: usize, width: usize) {
+        if !self.random.odd() {
+            let number = self.random.below(bound);
+            return self.whole(number, width);
+        }
+        if self.random.one_in(3) {
+            // Of any size, also where a float has no bits for all of it.
+            let count = self.random.between(1, 11);
+            return self.digits(count);
+        }
+        self.one_of(&ODD_NUMBERS);
     }
-    format!("{:0width$}", random.below(bound))
-}
 
-/// A number of two or three bytes, which may begin with a plus.
-pub(super) fn fixed_width(random: &mut Random, bound: usize, width: usize) -> String {
-    if !random.odd() {
-        return format!("{:0width$}", random.below(bound));
-    }
-    let shorter = digits(random, width - 1);
-    match random.below(8) {
-        0 | 1 => format!("+{shorter}"),
-        2 => format!("-{shorter}"),
-        3 => format!(" {shorter}"),
-        4 => format!("{shorter}+"),
-        5 => shorter,
-        6 => format!("{bound:0width$}"),
-        _ => digits(random, width),
-    }
-}
-
-/// Digits, and decimals behind a point if there are any.
-fn decimal(random: &mut Random, whole: usize, decimals: usize) -> String {
-    let whole = digits(random, whole);
-    match decimals {
-        0 => whole,
-        _ => format!("{whole}.{}", digits(random, decimals)),
-    }
-}
-
-/// A decimal of at most 7 digits.
-pub(super) fn short(random: &mut Random) -> String {
-    if random.odd() {
-        return match random.below(3) {
-            // Seven digits and eight.
-            0 => {
-                let (count, whole) = (random.between(7, 8), random.between(1, 7));
-                decimal(random, whole, count - whole)
+    /// A number of two or three bytes, which may begin with a plus.
+    pub(super) fn fixed_width(&mut self, bound: usize, width: usize) {
+        if !self.random.odd() {
+            let number = self.random.below(bound);
+            return self.whole(number, width);
+        }
+        match self.random.below(8) {
+            fault @ 0..=3 => {
+                self.byte(b"++- "[fault]);
+                self.digits(width - 1);
             }
-            _ => random.pick(&ODD_DECIMALS).into(),
-        };
-    }
-    let (whole, decimals) = (random.between(1, 3), random.below(4));
-    decimal(random, whole, decimals)
-}
-
-/// A short decimal, or nothing.
-pub(super) fn short_or_none(random: &mut Random) -> String {
-    if random.one_in(5) {
-        return String::new();
-    }
-    short(random)
-}
-
-/// A decimal of two digits below 60, with at most 9 behind the point.
-pub(super) fn long(random: &mut Random) -> String {
-    if random.odd() {
-        return match random.below(3) {
-            0 => {
-                let (whole, decimals) = (random.between(2, 4), random.between(8, 10));
-                decimal(random, whole, decimals)
+            4 => {
+                self.digits(width - 1);
+                self.byte(b'+');
             }
-            1 => decimal(random, 3, 1),
-            _ => random.pick(&ODD_DECIMALS).into(),
-        };
+            5 => self.digits(width - 1),
+            6 => self.whole(bound, width),
+            _ => self.digits(width),
+        }
     }
-    let whole = format!("{:02}", random.below(60));
-    let most = if random.one_in(6) { 9 } else { 4 };
-    match random.below(most + 1) {
-        0 => whole,
-        decimals => format!("{whole}.{}", digits(random, decimals)),
-    }
-}
 
-/// One of the known letters, or another byte, or none, or two.
-pub(super) fn letter(random: &mut Random, known: &str) -> String {
-    let known = known.as_bytes();
-    let one = char::from(known[random.below(known.len())]);
-    if !random.odd() {
-        return one.into();
+    /// Digits, and decimals behind a point if there are any.
+    fn decimal(&mut self, whole: usize, decimals: usize) {
+        self.digits(whole);
+        if decimals > 0 {
+            self.byte(b'.');
+            self.digits(decimals);
+        }
     }
-    match random.below(6) {
-        0 => String::new(),
-        1 => one.to_ascii_lowercase().into(),
-        2 => format!("{one}{one}"),
-        3 => char::from(random.below(128) as u8).into(),
-        _ => char::from(random.between(b'A'.into(), b'Z'.into()) as u8).into(),
+
+    /// A decimal of at most 7 digits.
+    pub(super) fn short(&mut self) {
+        if self.random.odd() {
+            return match self.random.below(3) {
+                // Seven digits and eight.
+                0 => {
+                    let (count, whole) = (self.random.between(7, 8), self.random.between(1, 7));
+                    self.decimal(whole, count - whole);
+                }
+                _ => self.one_of(&ODD_DECIMALS),
+            };
+        }
+        let (whole, decimals) = (self.random.between(1, 3), self.random.below(4));
+        self.decimal(whole, decimals);
+    }
+
+    /// A short decimal, or nothing.
+    pub(super) fn short_or_none(&mut self) {
+        if !self.random.one_in(5) {
+            self.short();
+        }
+    }
+
+    /// A decimal of two digits below 60, with at most 9 behind the point.
+    pub(super) fn long(&mut self) {
+        if self.random.odd() {
+            return match self.random.below(3) {
+                0 => {
+                    let (whole, decimals) = (self.random.between(2, 4), self.random.between(8, 10));
+                    self.decimal(whole, decimals);
+                }
+                1 => self.decimal(3, 1),
+                _ => self.one_of(&ODD_DECIMALS),
+            };
+        }
+        let whole = self.random.below(60);
+        self.whole(whole, 2);
+        let most = if self.random.one_in(6) { 9 } else { 4 };
+        let decimals = self.random.below(most + 1);
+        if decimals > 0 {
+            self.byte(b'.');
+            self.digits(decimals);
+        }
+    }
+
+    /// One of the known letters, or another byte, or none, or two.
+    pub(super) fn letter(&mut self, known: &[u8]) {
+        let one = self.random.pick(known);
+        if !self.random.odd() {
+            return self.byte(one);
+        }
+        match self.random.below(6) {
+            0 => {}
+            1 => self.byte(one.to_ascii_lowercase()),
+            2 => self.fill(one, 2),
+            3 => {
+                let any = self.random.byte(0, 127);
+                self.byte(any);
+            }
+            _ => {
+                let other = self.random.byte(b'A', b'Z');
+                self.byte(other);
+            }
+        }
     }
 }

@@ -1,33 +1,41 @@
 use crate::{with_checksum, KNOWN_TYPES};
 
-/// The sentences of document 01 and of the comments in the crate's gsv.rs,
-/// gsa.rs and rmc.rs, as they stand there.
-const WORKED: [&str; 15] = [
+/// The sentences of document 01, as they stand there.
+const WORKED: [&str; 6] = [
     "$GPGSV,3,1,11,03,03,111,00,04,15,270,00,06,01,010,00,13,06,292,00*74",
-    "$GPGSV,3,2,11,14,25,170,00,16,57,208,39,18,67,296,40,19,40,246,00*74",
     "$GPGSV,3,3,11,22,42,067,42,24,14,311,43,27,05,244,00,,,,*4D",
+    "$GPGSA,A,3,,,,,,16,18,,22,24,,,3.6,2.1,2.2*3C",
+    "$GPGSA,A,1,,,,*32",
+    "$GPGSA,A,1,,,,*33",
+    "$GNRMC,101500.25,A,5130.5,N,00006.0,W,4.5,270.0,290224,,,A*5F",
+];
+
+/// The further sentences in the comments of the crate's gsv.rs, gsa.rs and
+/// rmc.rs, as they stand there.
+const COMMENTS: [&str; 9] = [
+    "$GPGSV,3,2,11,14,25,170,00,16,57,208,39,18,67,296,40,19,40,246,00*74",
     "$GLGSV,3,3,09,88,07,028*51",
     "$IDGSV,2,1,08,01,40,083,46,02,17,308,41,12,07,344,39,14,22,228,45*75",
-    "$GPGSA,A,3,,,,,,16,18,,22,24,,,3.6,2.1,2.2*3C",
     "$GPGSA,A,3,19,28,14,18,27,22,31,39,,,,,1.7,1.0,1.3*35",
     "$GPGSA,A,3,23,31,22,16,03,07,,,,,,,1.8,1.1,1.4*3E",
     "$BDGSA,A,3,214,,,,,,,,,,,,1.8,1.1,1.4*18",
     "$GNGSA,A,3,31,26,21,,,,,,,,,,3.77,2.55,2.77*1A",
     "$GNGSA,A,3,75,86,87,,,,,,,,,,3.77,2.55,2.77*1C",
-    "$GPGSA,A,1,,,,*32",
-    "$GPGSA,A,1,,,,*33",
-    "$GNRMC,101500.25,A,5130.5,N,00006.0,W,4.5,270.0,290224,,,A*5F",
     "RMC,225446.33,A,4916.45,N,12311.12,W,000.5,054.7,191194,020.3,E,A*68",
 ];
 
-/// Bodies of sentences that document 01 speaks of, or whose comment has a
-/// checksum that does not hold.
-const BODIES: [&str; 19] = [
+/// The bodies of those whose checksum does not hold, or which have no frame.
+const COMMENT_BODIES: [&str; 4] = [
     "GLGSV,3,3,09,88,07,028",
-    "GLGSV,3,3,09,88,07,028,",
     "IDGSV,2,1,08,01,40,083,46,02,17,308,41,12,07,344,39,14,22,228,45",
-    "GPGSV,1,1,03,01,40,083,46,02,-5,308,41,12,07,344,39",
     "GPGSA,A,3,19,28,14,18,27,22,31,39,,,,,1.7,1.0,1.3",
+    "GPRMC,225446.33,A,4916.45,N,12311.12,W,000.5,054.7,191194,020.3,E,A",
+];
+
+/// Bodies of sentences that document 01 speaks of.
+const BODIES: [&str; 15] = [
+    "GLGSV,3,3,09,88,07,028,",
+    "GPGSV,1,1,03,01,40,083,46,02,-5,308,41,12,07,344,39",
     "GPGSA,A,3,16,18,,22,24,3,2,1",
     "GPGSA,A,3,16,18,3,2.1,2.2",
     "GPGSA,A,3,16,18,3,2.1,2,1",
@@ -35,7 +43,6 @@ const BODIES: [&str; 19] = [
     "GPGSA,A,3,1,2,3,4,5,6,7,8,9,10,11,12,13,14,15,16,17,18,19,3.6,2.1,2.2",
     "GPGSA,A,1,,,,2",
     "GBGSA,A,3,16,3.6,2.1,2.2,3",
-    "GPRMC,225446.33,A,4916.45,N,12311.12,W,000.5,054.7,191194,020.3,E,A",
     "GPRMC,+5+607,A,+12,N,+123,E,,,+1+2+3,,",
     "GPRMC,,V,,,,,,,,,E,A",
     "GPRMC,,A,,,,,,,,0,W",
@@ -44,9 +51,17 @@ const BODIES: [&str; 19] = [
     "GPTXT,i",
 ];
 
+/// The lines of the crate's comments, as they are and with right checksums.
+pub fn comment_lines() -> Vec<Vec<u8>> {
+    let whole = COMMENTS.iter().map(|line| line.to_string());
+    let bodies = COMMENT_BODIES.iter().map(|body| with_checksum(body));
+    whole.chain(bodies).map(String::into_bytes).collect()
+}
+
 /// The worked lines of document 01 and those of the crate's comments.
 pub fn worked_lines() -> Vec<Vec<u8>> {
     let mut lines: Vec<Vec<u8>> = WORKED.iter().map(|line| line.as_bytes().to_vec()).collect();
+    lines.extend(comment_lines());
     lines.extend(BODIES.iter().map(|body| with_checksum(body).into_bytes()));
     lines.extend(
         KNOWN_TYPES

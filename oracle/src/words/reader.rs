@@ -1,16 +1,6 @@
 use super::{Words, WORDS};
 use crate::System;
 
-/// The systems by their numbers, from 1 on.
-const SYSTEMS: [System; 6] = [
-    System::Gps,
-    System::Glonass,
-    System::Galileo,
-    System::Beidou,
-    System::NavIc,
-    System::Qzss,
-];
-
 /// Takes the words of an answer one after another.
 pub(super) struct Reader<'a> {
     words: &'a Words,
@@ -78,7 +68,7 @@ impl<'a> Reader<'a> {
         if number > count {
             return Err(self.unfit("no system"));
         }
-        Ok(number.checked_sub(1).map(|index| SYSTEMS[index]))
+        Ok(number.checked_sub(1).map(|index| System::ALL[index]))
     }
 
     /// A part that has a 1 before it if it is there. It has `count` words,

@@ -1,7 +1,7 @@
 use std::{env, error::Error, hint::black_box, time::Instant};
 
 use nmea::{parse_bytes, ParseResult};
-use oracle::lines::{corpus_lines, corpus_logs};
+use oracle::lines::{corpus, corpus_lines};
 use proved_nmea::abi;
 
 use crate::gatherer::Gatherer;
@@ -28,6 +28,7 @@ pub fn run() -> Result<(), Box<dyn Error>> {
 
     println!("class    lines  ours ns  whole answer ns  crate ns  ratio  floor ns");
     let mut ratios = vec![];
+    let mut whole_ratios = vec![];
     for class in ["rmc", "gsa", "gsv", "other", "refused"] {
         let lines = of(class);
         let bytes: usize = lines.iter().map(|line| line.len()).sum();
@@ -38,7 +39,7 @@ pub fn run() -> Result<(), Box<dyn Error>> {
                 &mut || {
                     lines
                         .iter()
-                        .for_each(|line| drop(black_box(abi::refusal(line))))
+                        .for_each(|line| seen(abi::refusal(line)))
                 },
                 &mut || {
                     let mut words = [0; abi::WORDS];
@@ -50,12 +51,13 @@ pub fn run() -> Result<(), Box<dyn Error>> {
                 &mut || {
                     lines
                         .iter()
-                        .for_each(|line| drop(black_box(parse_bytes(line))))
+                        .for_each(|line| seen(parse_bytes(line)))
                 },
-                &mut || lines.iter().for_each(|line| drop(black_box(floor(line)))),
+                &mut || lines.iter().for_each(|line| seen(floor(line))),
             ],
         );
         ratios.push(told(class, lines.len(), bytes, times));
+        whole_ratios.push(format!("{class}={:.2}", times[2] / times[1]));
     }
 
     let logs = logs()?;
@@ -65,10 +67,10 @@ pub fn run() -> Result<(), Box<dyn Error>> {
         rounds,
         count,
         [
-            &mut || logs.iter().for_each(|log| drop(black_box(walk(log)))),
+            &mut || logs.iter().for_each(|log| seen(walk(log))),
             &mut || {},
-            &mut || logs.iter().for_each(|log| drop(black_box(crate_walk(log)))),
-            &mut || logs.iter().for_each(|log| drop(black_box(floor(log)))),
+            &mut || logs.iter().for_each(|log| seen(crate_walk(log))),
+            &mut || logs.iter().for_each(|log| seen(floor(log))),
         ],
     );
     ratios.push(told("walk", count, bytes, times));
@@ -80,7 +82,7 @@ pub fn run() -> Result<(), Box<dyn Error>> {
             rounds,
             lines_of(&log).count(),
             [
-                &mut || drop(black_box(walk(&log))),
+                &mut || seen(walk(&log)),
                 &mut || {},
                 &mut || {},
                 &mut || {},
@@ -90,7 +92,8 @@ pub fn run() -> Result<(), Box<dyn Error>> {
         println!("{kib:>3} KiB   {:>6.2}", ours * lines / log.len() as f64);
     }
 
-    println!("\nratios {}", ratios.join(" "));
+    println!("\nwhole answers {}", whole_ratios.join(" "));
+    println!("ratios {}", ratios.join(" "));
     Ok(())
 }
 
@@ -162,6 +165,11 @@ fn class_of(line: &[u8]) -> &'static str {
     }
 }
 
+/// Keeps the compiler from leaving out what made a value.
+fn seen<T>(value: T) {
+    black_box(value);
+}
+
 /// One pass that finds the line feeds and XORs: nothing that checks sums can be faster.
 fn floor(bytes: &[u8]) -> (usize, u8) {
     let (mut lines, mut sum) = (0, 0);
@@ -210,8 +218,8 @@ fn crate_walk(log: &[u8]) -> ([u64; 4], Gatherer) {
 /// The logs, cut behind line feeds where one is too long for a walk.
 fn logs() -> Result<Vec<Vec<u8>>, Box<dyn Error>> {
     let mut pieces = vec![];
-    for log in corpus_logs()? {
-        let mut rest = &log[..];
+    for log in corpus()? {
+        let mut rest = &log.bytes[..];
         while rest.len() > LONGEST_LOG {
             let cut = rest[..LONGEST_LOG].iter().rposition(|&byte| byte == b'\n');
             let (piece, more) = rest.split_at(cut.map_or(LONGEST_LOG, |at| at + 1));

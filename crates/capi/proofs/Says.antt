@@ -3,12 +3,15 @@
 use Prim.Native.Nat.{ℕ, zero, suc, _-_}
 use mathlib.Core.Path.{_≡_, refl, ap, sym, _∙_, subst}
 use mathlib.Core.List.{List, [], _∷_, _++_}
+use mathlib.Core.Option.{Option, none, some}
 use lib.ListN.{length, take, replicate, getD}
 use Rattle.frame.specs.Answer.{talkerBytes}
 use Rattle.gsa.specs.Gsa.{kept}
 use Rattle.gsa.specs.Answer.{row, system, dopsOf}
-use Rattle.sentence.specs.Sentence.{Answer}
-use Rattle.sentence.specs.Answer.{recordOf, Says, Beside}
+use Rattle.frame.specs.Refused.{Refused}
+use Rattle.sentence.specs.Sentence.{Answer, isRmc, isGsa, isGsv, isOther, isRefused, verdictOf}
+use Rattle.sentence.specs.Answer.{recordOf, Says, Beside, verdict}
+use Rattle.sentence.specs.declared.Verdict.{Verdict}
 use Rattle.sentence.specs.declared.Record.{Record}
 use Rattle.sentence.specs.declared.Record.the-variants.{Rmc as ARmc, Gsa as AGsa, Gsv as AGsv, Other as AnOther, Refused as ARefusal}
 use Rattle.sentence.specs.declared.GsaRecord.{GsaRecord}
@@ -16,8 +19,20 @@ use Rattle.sentence.specs.declared.ParseResult.{ParseResult}
 use Rattle.capi.specs.Layout.{refusalNumber, zeros, padded, gsaHead, gsaTail, words}
 use Rattle.capi.specs.Answer.{gsaRow, recordWords}
 
-pub refusal-of : {a : Answer} {p : ParseResult} {w : Record} → Says a p → p .answer ≡ w → refusalNumber (recordOf (take (p .count) (p .satellites)) w) ≡ refusalNumber a
-refusal-of {a} {p} {w} s e = ap (λ (x : Record). refusalNumber (recordOf (take (p .count) (p .satellites)) x)) (sym e) ∙ ap refusalNumber (s .says)
+-- a verdict's number
+abbrev pub numbered : Option Refused → ℕ
+numbered none = 0
+numbered (some r) = r .number
+
+refusal-number : (a : Answer) → numbered (verdictOf a) ≡ refusalNumber a
+refusal-number (isRmc r) = refl
+refusal-number (isGsa g) = refl
+refusal-number (isGsv g) = refl
+refusal-number (isOther k) = refl
+refusal-number (isRefused r) = refl
+
+pub refusal-of : (a : Answer) {v w : Verdict} → verdict v ≡ verdictOf a → v ≡ w → numbered (verdict w) ≡ refusalNumber a
+refusal-of a {v} {w} e q = ap (λ (x : Verdict). numbered (verdict x)) (sym q) ∙ ap numbered e ∙ refusal-number a
 
 -- zeros after a list change nothing of its padded words
 padded-zeros : (n k : ℕ) → padded n (replicate k 0) ≡ padded n []

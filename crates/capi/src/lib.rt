@@ -35,6 +35,7 @@ use sentence::GsaRecord;
 use sentence::GsvRecord;
 use sentence::ParseResult;
 use sentence::Record;
+use sentence::Verdict;
 use text::Held;
 
 // How many words an answer has.
@@ -748,14 +749,9 @@ fn put(out: &mut [u64], w: [u64; WORDS])
 pub extern "C" fn nmea_refusal(line: &[u8]) -> u32
     ensures { λ r. ⌜ (r ≡ refusalNumber (answer (now (line .entry)))) × (now (line .exit) ≡ now (line .entry)) ⌝ }
 {
-    let p = sentence::parse_bytes(line);
-    let answer = p.answer;
-    match answer {
-        Record::Rmc(_) => 0,
-        Record::Gsa(_) => 0,
-        Record::Gsv(_) => 0,
-        Record::Other(_) => 0,
-        Record::Refused(why) => why.number(),
+    match sentence::judge(line) {
+        Verdict::Accepted => 0,
+        Verdict::Refused(why) => why.number(),
     }
 }
 

@@ -25,17 +25,22 @@ fn least(a: u32, b: u32) -> u32
     if a < b { a } else { b }
 }
 
-// Ten to the power `k`, up to the ninth, which stands for any above: one, or ten times the power below.
-pub fn pow10(k: u32) -> u64
-    ensures { λ r. ⌜ r ≡ 10 ^ min k 9 ⌝ }
+// Ten to the power `k`: one, or ten times the power below.
+fn tens(k: u32) -> u64
+    requires { ⌜ k ≤ 9 ⌝ }
+    ensures { λ r. ⌜ r ≡ 10 ^ k ⌝ }
 {
     if k == 0 {
         return 1;
     }
-    if 9 < k {
-        return pow10(9);
-    }
-    10 * pow10(k - 1)
+    10 * tens(k - 1)
+}
+
+// Ten to the power `k`, up to the ninth, which stands for any above.
+pub fn pow10(k: u32) -> u64
+    ensures { λ r. ⌜ r ≡ 10 ^ min k 9 ⌝ }
+{
+    tens(least(k, 9))
 }
 
 // A run of digits: the number it writes, its count of digits, the next place; or more digits than allowed.

@@ -21,9 +21,11 @@ on-rmc-requires : tie.Need-on-rmc-requires
 on-rmc-requires c κs = search needs
 
 returns : tie.Need-returns
-returns c =
-    (c .on-rmc .ensures
-        ∙ ap verdictOf (c .before .rmc-of .ensures .0 ∙ to-rmc (parts (now (c .before .before .before .before .before .before .args .s)) (c .before .before .before .before .before .before .args .x)) (c .before .before .before .same .ensures) (c .before .before .if1 .taken)), refl)
+returns c = (
+  c .on-rmc .ensures
+      ∙ ap verdictOf (c .before .rmc-of .ensures .0 ∙ to-rmc (parts (now (c .before .before .before .before .before .before .args .s)) (c .before .before .before .before .before .before .args .x)) (c .before .before .before .same .ensures) (c .before .before .if1 .taken)),
+  refl,
+)
 
 same-requires-2 : tie.Need-same-requires-2
 same-requires-2 c κs = search needs
@@ -36,11 +38,13 @@ on-gsa-requires c κs = search needs
 
 returns-2 : tie.Need-returns-2
 returns-2 c =
-    let l = c .before .gsa-of .result in
-    (c .on-gsa .ensures
-        ∙ found-verdict [] (take (l .count) (l .satellites)) (l .found)
-        ∙ ap verdictOf (c .before .gsa-of .ensures .0 .says
-        ∙ to-gsa (parts (now (c .before .before .before .before .before .before .before .before .args .s)) (c .before .before .before .before .before .before .before .before .args .x)) (c .before .before .before .before .before .same .ensures) (c .before .before .before .before .if1 .left) (c .before .before .before .same2 .ensures) (c .before .before .if2 .taken)), refl)
+    let l = c .before .gsa-of .result in (
+      c .on-gsa .ensures
+          ∙ found-verdict [] (take (l .count) (l .satellites)) (l .found)
+          ∙ ap verdictOf (c .before .gsa-of .ensures .0 .says
+          ∙ to-gsa (parts (now (c .before .before .before .before .before .before .before .before .args .s)) (c .before .before .before .before .before .before .before .before .args .x)) (c .before .before .before .before .before .same .ensures) (c .before .before .before .before .if1 .left) (c .before .before .before .same2 .ensures) (c .before .before .if2 .taken)),
+      refl,
+    )
 
 same-requires-3 : tie.Need-same-requires-3
 same-requires-3 c κs = search needs
@@ -52,10 +56,12 @@ on-gsv-requires : tie.Need-on-gsv-requires
 on-gsv-requires c κs = search needs
 
 returns-3 : tie.Need-returns-3
-returns-3 c =
-    (c .on-gsv .ensures
-        ∙ ap verdictOf (c .before .gsv-of .ensures .0
-        ∙ to-gsv (parts (now (c .before .before .before .before .before .before .before .before .before .before .args .s)) (c .before .before .before .before .before .before .before .before .before .before .args .x)) (c .before .before .before .before .before .before .before .same .ensures) (c .before .before .before .before .before .before .if1 .left) (c .before .before .before .before .before .same2 .ensures) (c .before .before .before .before .if2 .left) (c .before .before .before .same3 .ensures) (c .before .before .if3 .taken)), refl)
+returns-3 c = (
+  c .on-gsv .ensures
+      ∙ ap verdictOf (c .before .gsv-of .ensures .0
+      ∙ to-gsv (parts (now (c .before .before .before .before .before .before .before .before .before .before .args .s)) (c .before .before .before .before .before .before .before .before .before .before .args .x)) (c .before .before .before .before .before .before .before .same .ensures) (c .before .before .before .before .before .before .if1 .left) (c .before .before .before .before .before .same2 .ensures) (c .before .before .before .before .if2 .left) (c .before .before .before .same3 .ensures) (c .before .before .if3 .taken)),
+  refl,
+)
 
 returns-4 : tie.Need-returns-4
 returns-4 c =

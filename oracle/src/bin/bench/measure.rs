@@ -36,11 +36,7 @@ pub fn run() -> Result<(), Box<dyn Error>> {
             rounds,
             lines.len(),
             [
-                &mut || {
-                    lines
-                        .iter()
-                        .for_each(|line| seen(abi::refusal(line)))
-                },
+                &mut || lines.iter().for_each(|line| seen(abi::refusal(line))),
                 &mut || {
                     let mut words = [0; abi::WORDS];
                     for line in &lines {
@@ -48,11 +44,7 @@ pub fn run() -> Result<(), Box<dyn Error>> {
                         black_box(&words);
                     }
                 },
-                &mut || {
-                    lines
-                        .iter()
-                        .for_each(|line| seen(parse_bytes(line)))
-                },
+                &mut || lines.iter().for_each(|line| seen(parse_bytes(line))),
                 &mut || lines.iter().for_each(|line| seen(floor(line))),
             ],
         );
@@ -75,21 +67,21 @@ pub fn run() -> Result<(), Box<dyn Error>> {
     );
     ratios.push(told("walk", count, bytes, times));
 
-    println!("\nlog of    ours ns a byte");
-    for kib in [1, 8, 64] {
-        let log = log_of(&logs, kib * 1024);
+    println!("\nthe same lines  ours ns a byte");
+    let stretch = stretch(&logs);
+    for times in [1, 8, 64] {
+        let log = stretch.repeat(times);
         let [ours, ..] = medians(
             rounds,
             lines_of(&log).count(),
-            [
-                &mut || seen(walk(&log)),
-                &mut || {},
-                &mut || {},
-                &mut || {},
-            ],
+            [&mut || seen(walk(&log)), &mut || {}, &mut || {}, &mut || {}],
         );
         let lines = lines_of(&log).count() as f64;
-        println!("{kib:>3} KiB   {:>6.2}", ours * lines / log.len() as f64);
+        println!(
+            "{:>8} bytes  {:>14.2}",
+            log.len(),
+            ours * lines / log.len() as f64
+        );
     }
 
     println!("\nwhole answers {}", whole_ratios.join(" "));
@@ -232,18 +224,18 @@ fn logs() -> Result<Vec<Vec<u8>>, Box<dyn Error>> {
     Ok(pieces)
 }
 
-/// A log of whole lines of at most that many bytes.
-fn log_of(logs: &[Vec<u8>], most: usize) -> Vec<u8> {
-    let mut log = vec![];
-    for line in logs
+/// About a KiB of lines from all over the logs.
+fn stretch(logs: &[Vec<u8>]) -> Vec<u8> {
+    let lines: Vec<&[u8]> = logs
         .iter()
         .flat_map(|log| log.split_inclusive(|&byte| byte == b'\n'))
-        .cycle()
-    {
-        if log.len() + line.len() > most {
-            return log;
+        .filter(|line| line.ends_with(b"\n"))
+        .collect();
+    let mut stretch = vec![];
+    for line in lines.iter().step_by(lines.len() / 16) {
+        if stretch.len() + line.len() <= 1024 {
+            stretch.extend_from_slice(line);
         }
-        log.extend_from_slice(line);
     }
-    log
+    stretch
 }

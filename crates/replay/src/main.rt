@@ -18,7 +18,7 @@ enum Frame {
 // Whether the byte at a place is the lowest of a word.
 fn same_byte(bytes: &[u8], at: usize, word: u64) -> bool {
     if at < bytes.len() {
-        return bytes[at] as u64 == word % 256;
+        return bytes[at] == (word % 256) as u8;
     }
     false
 }
@@ -135,32 +135,16 @@ fn print(word: &[u8], n: u64) -> bool {
     io::print_decimal(STDOUT_FILENO, n)
 }
 
-// Replays the list and tells how many lines it has, how many of them differ, and whether it was cut off.
-fn replay() -> bool {
-    let mut space = io::buffer();
-    let mut lines: u64 = 0;
-    let mut differ: u64 = 0;
-    let mut cut: u64 = 0;
-    while lines < MOST {
-        match next(&mut space) {
-            Frame::Same => {}
-            Frame::Differs => {
-                differ += 1;
-                if !print(b"differs: line ", lines + 1) {
-                    return false;
-                }
-                if !io::write_all(STDOUT_FILENO, b"\n") {
-                    return false;
-                }
-            }
-            Frame::End => break,
-            Frame::Cut => {
-                cut = 1;
-                break;
-            }
-        }
-        lines += 1;
+// Names a line whose answer differs.
+fn print_differs(line: u64) -> bool {
+    if !print(b"differs: line ", line) {
+        return false;
     }
+    io::write_all(STDOUT_FILENO, b"\n")
+}
+
+// How many lines the list has, how many of them differ, and whether it was cut off.
+fn print_counts(lines: u64, differ: u64, cut: u64) -> bool {
     if !print(b"replayed ", lines) {
         return false;
     }
@@ -171,6 +155,32 @@ fn replay() -> bool {
         return false;
     }
     io::write_all(STDOUT_FILENO, b"\n")
+}
+
+// Replays the list and tells what it came to; false where standard output takes no more.
+fn replay() -> bool {
+    let mut space = io::buffer();
+    let mut lines: u64 = 0;
+    let mut differ: u64 = 0;
+    let mut cut: u64 = 0;
+    while lines < MOST {
+        match next(&mut space) {
+            Frame::Same => lines += 1,
+            Frame::Differs => {
+                lines += 1;
+                differ += 1;
+                if !print_differs(lines) {
+                    return false;
+                }
+            }
+            Frame::End => break,
+            Frame::Cut => {
+                cut = 1;
+                break;
+            }
+        }
+    }
+    print_counts(lines, differ, cut)
 }
 
 fn main() {

@@ -47,13 +47,14 @@ pub record LongFacts (d : Long) : Type 0 where
   pub few : d .decimals ≤ 9
   pub front : d .size < 1000 * 10 ^ d .decimals
   pub small : d .billionths < 1000000000000
+  pub scaled : d .billionths ≡ d .size * 10 ^ (9 - d .decimals)
 
 short-known : (d : Decimal) → Bounded short d → ShortFacts (shortOf d)
 short-known d b =
     record { small = subst (λ (t : Bool). natAbs (signed (d .size) t) < 10000000) (sym (b .plus)) (b .small); few = omega (arith, b .fewer) }
 
 long-known : (d : Decimal) → Bounded long d → LongFacts (longOf d)
-long-known d b = record { few = b .few; front = b .front; small = minutes-lt (d .size) (d .decimals) (b .front) (b .few) }
+long-known d b = record { few = b .few; front = b .front; small = minutes-lt (d .size) (d .decimals) (b .front) (b .few); scaled = refl }
 
 pub short-facts : (l : List ℕ) {d : Short} {m : List ℕ} → shortDecimal l ≡ got (some d) m → ShortFacts d
 unfolding shortDecimal

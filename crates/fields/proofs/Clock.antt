@@ -1,8 +1,8 @@
 -- The ranges of a time, test by test, and then BadTime. Assumes nothing.
-use Prim.Native.Nat.{ℕ, _*_, _-_, _%_, _^_, _≤_, _<_}
-use native.Mathlib.Nat.{mul-lt-mul-of-pos-right, mod-lt}
+use Prim.Native.Nat.{ℕ, _+_, _*_, _-_, _/_, _%_, _^_, _≤_, _<_}
+use native.Mathlib.Nat.{mul-lt-mul-of-pos-right, mod-lt, mul-assoc, add-mul, div-add-mod'}
 use native.Mathlib.Omega.{arith}
-use mathlib.Core.Path.{_≡_, ap, _∙_}
+use mathlib.Core.Path.{_≡_, ap, sym, _∙_}
 use mathlib.Core.Bool.{Bool, cond, _&&_, and-false}
 use mathlib.Core.List.{List}
 use lib.Dec.{ltb}
@@ -17,6 +17,23 @@ nanoseconds-lt size k h =
     let p : size % 10 ^ k * 10 ^ (9 - k) < 10 ^ k * 10 ^ (9 - k) = mul-lt-mul-of-pos-right (mod-lt size (ten-pos k)) (ten-pos (9 - k)) in
     let q : 10 ^ k * 10 ^ (9 - k) ≡ 10 ^ 9 = parts k 9 h in
     omega arith
+
+-- billionths are whole seconds and the nanoseconds
+scaled : (size k : ℕ) → k ≤ 9 → size * 10 ^ (9 - k) ≡ secondOf size k * 1000000000 + nanosecondOf size k
+scaled size k h =
+    let a = size / 10 ^ k in
+    let b = size % 10 ^ k in
+    let q = 10 ^ (9 - k) in
+    ap (λ (n : ℕ). n * q) (sym (div-add-mod' size (10 ^ k)))
+    ∙ add-mul (a * 10 ^ k) b q
+    ∙ ap (λ (n : ℕ). n + b * q) (mul-assoc a (10 ^ k) q ∙ ap (λ (n : ℕ). a * n) (parts k 9 h))
+
+module _ (size k n : ℕ) (h : k ≤ 9) (e : n ≡ size * 10 ^ (9 - k)) where
+  pub whole-second : n / 1000000000 ≡ secondOf size k
+  whole-second = omega (arith, e ∙ scaled size k h, nanoseconds-lt size k h)
+
+  pub rest-second : n % 1000000000 ≡ nanosecondOf size k
+  rest-second = omega (arith, e ∙ scaled size k h, nanoseconds-lt size k h)
 
 module _ (h m size d : ℕ) (l : List ℕ) where
   abbrev pub time : Time

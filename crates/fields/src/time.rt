@@ -1,10 +1,11 @@
 // The time of day.
 ghost use mathlib.Core.Path.{_≡_};
-ghost use Prim.Native.Nat.{_≤_};
+ghost use Prim.Native.Nat.{_≤_, _*_, _-_, _^_};
 ghost use Rattle.text.specs.Placed.{Reads};
 ghost use Rattle.fields.specs.Time.{clock, hms, optHms};
 ghost use Rattle.fields.specs.Answer.{timeRead, timeAt};
 use decimal::LongAt;
+use decimal::LongDecimal;
 use text::Whole;
 
 pub struct TimeOfDay {
@@ -23,9 +24,9 @@ pub enum TimeRead {
 }
 
 // What hour, minute and seconds make: the ranges first, then BadTime.
-fn on_clock(s: &[u8], at: usize, hour: u32, minute: u32, size: u64, k: u32) -> TimeRead
-    requires { ⌜ k ≤ 9 ⌝ }
-    ensures { λ r. ⌜ Reads (now (s .entry)) at (clock hour minute size k) (timeRead r) × (now (s .exit) ≡ now (s .entry)) ⌝ }
+fn on_clock(s: &[u8], at: usize, hour: u32, minute: u32, d: LongDecimal) -> TimeRead
+    requires { ⌜ (d .decimals ≤ 9) × (d .billionths ≡ d .size * 10 ^ (9 - d .decimals)) ⌝ }
+    ensures { λ r. ⌜ Reads (now (s .entry)) at (clock hour minute (d .size) (d .decimals)) (timeRead r) × (now (s .exit) ≡ now (s .entry)) ⌝ }
 {
     if 24 <= hour {
         return TimeRead::No;
@@ -33,12 +34,12 @@ fn on_clock(s: &[u8], at: usize, hour: u32, minute: u32, size: u64, k: u32) -> T
     if 60 <= minute {
         return TimeRead::No;
     }
-    let one = decimal::pow10(k);
-    let second = size / one;
+    let all = d.billionths;
+    let second = all / 1000000000;
     if 60 <= second {
         return TimeRead::No;
     }
-    let nanosecond = size % one * decimal::pow10(9 - k);
+    let nanosecond = all % 1000000000;
     if 1000000000 <= nanosecond {
         return TimeRead::BadTime;
     }
@@ -65,7 +66,7 @@ pub fn parse_hms(s: &[u8], at: usize) -> TimeRead
     };
     match decimal::long_decimal(s, at) {
         LongAt::Absent(_) => TimeRead::No,
-        LongAt::Is(d, at) => on_clock(s, at, hour, minute, d.size, d.decimals),
+        LongAt::Is(d, at) => on_clock(s, at, hour, minute, d),
         LongAt::Number => TimeRead::Number,
     }
 }

@@ -43,7 +43,7 @@ enum-known-d : tie.Need-enum-known-d
 enum-known-d c = search needs
 
 on-clock-requires : tie.Need-on-clock-requires
-on-clock-requires c κs = long-held (c .before .before .before .long-decimal .ensures .0) (c .before .d .given .1) .few
+on-clock-requires c κs = let f = long-held (c .before .before .before .long-decimal .ensures .0) (c .before .d .given .1) in (f .few, f .scaled)
 
 enum-told-4 : tie.Need-enum-told-4
 enum-told-4 c = search needs

@@ -8,8 +8,8 @@ use describe::{describe, describe_refusal};
 use document::{all_rows, listed_types, section, Row, TYPES};
 use nmea::SentenceType;
 use oracle::{
-    crate_answer, crate_gsa, crate_gsv, crate_rmc, is_plain, with_checksum, Answer, Limits,
-    Refusal, KNOWN_TYPES,
+    answer_of, crate_answer, crate_gsa, crate_gsv, crate_rmc, is_plain, lines::Batch,
+    with_checksum, Answer, Limits, Ours, Refusal, KNOWN_TYPES,
 };
 
 const MORE_DECIMALS: &str = "Beside the decimal";
@@ -428,4 +428,23 @@ fn short_texts_are_accepted_exactly_by_the_words() {
     }
     // Neither side of the equality is empty.
     assert!(tried.iter().all(|&count| count > 1000), "{tried:?}");
+}
+
+#[test]
+fn we_answer_as_the_rows_say() {
+    // the rows of the readers of one type, which we do not export, say what they answer to the same line
+    let rows = all_rows();
+    let lines: Batch = rows.iter().map(|row| row.sentence).collect();
+    let answers = Ours::find()
+        .expect("our reader")
+        .answers(&lines)
+        .expect("answers");
+    for (row, words) in rows.iter().zip(answers) {
+        match answer_of(&words).expect("words of an answer").answer {
+            Answer::Refused(refusal) => {
+                assert_eq!(describe_refusal(&refusal), row.ours, "{}", row.sentence)
+            }
+            other => panic!("{}: we accept: {other:?}", row.sentence),
+        }
+    }
 }

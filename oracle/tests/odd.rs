@@ -4,7 +4,7 @@
 mod describe;
 
 use describe::describe;
-use oracle::{answer_of, crate_answer, judge, Domain, Ours};
+use oracle::{answer_of, crate_answer, judge, lines::Batch, Domain, Ours};
 
 const DOCUMENT: &str = include_str!("../../docs/ODD-READINGS.md");
 
@@ -59,10 +59,10 @@ fn every_row_is_what_the_crate_answers() {
 
 #[test]
 fn we_answer_every_row_alike() {
-    let rows = rows();
-    let lines: Vec<Vec<u8>> = rows.iter().map(|row| row.sentence.into()).collect();
+    let lines: Batch = rows().iter().map(|row| row.sentence).collect();
     let ours = Ours::find().expect("our reader");
-    for (line, words) in lines.iter().zip(ours.answers(&lines).expect("answers")) {
+    let answers = ours.answers(&lines).expect("answers");
+    for (line, words) in lines.lines().zip(answers) {
         let answer = answer_of(&words).expect("words of an answer");
         let domain = judge(line, &answer, &crate_answer(line));
         assert_eq!(domain, Ok(Domain::Inside), "{}", line.escape_ascii());

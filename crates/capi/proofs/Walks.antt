@@ -4,10 +4,10 @@ use native.Mathlib.Omega.{arith}
 use mathlib.Core.Path.{_≡_, refl, ap, sym, _∙_, subst}
 use mathlib.Core.List.{List, [], _∷_, _++_}
 use lib.ListN.{length, drop, set}
-use Rattle.frame.specs.Answer.{numberOf, refused}
+use Rattle.frame.specs.Answer.{numberOf}
 use Rattle.frame.specs.declared.refusal.Refusal.{Refusal}
 use Rattle.gather.specs.Table.{freshGatherer}
-use Rattle.log.specs.Walk.{Walk, barred, went, walkOf}
+use Rattle.log.specs.Walk.{Walk, walkOf}
 use Rattle.log.specs.Answer.{walkIn}
 use Rattle.log.specs.declared.walk.Counts.{Counts}
 use Rattle.log.specs.declared.walk.Walked as Code

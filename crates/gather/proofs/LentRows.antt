@@ -17,8 +17,7 @@ use Rattle.groups.proofs.Fold.{outs, holding, outs-row, after-own}
 use Rattle.gsv.specs.Gsv.{Satellite}
 use Rattle.rows.specs.Key.{rowCount}
 use Rattle.rows.specs.Line.{lineOf}
-use Rattle.rows.specs.Leave.{Line, Leavable, Stands}
-use Rattle.rows.proofs.Row.{row-exactly}
+use Rattle.rows.specs.Leave.{Line, Stands}
 use Rattle.sentence.specs.Sentence.{GsvSentence}
 use Rattle.short.specs.Room.{Written}
 use Rattle.gather.specs.Lent.{stands}
@@ -28,12 +27,12 @@ use Rattle.gather.specs.Run.{run, LeftIn}
 use Rattle.gather.specs.declared.row.Row.{Row}
 use Rattle.gather.specs.declared.table.Gatherer.{Gatherer}
 use Rattle.gather.proofs.Meaning.{Typed, written-stands, stands-exactly}
-use Rattle.gather.proofs.Tables.{held-at, AllStand, logOf, stand-after, runs-held}
+use Rattle.gather.proofs.Tables.{each-at, logOf, stand-after, runs-held}
 
 -- the row that lines leave in a fresh gatherer is the row of the run that the theory leaves
 left-row : (ss : List GsvSentence) (κ : ℕ) → All Written ss → κ < rowCount
     → getD (run freshGatherer ss .rows) κ emptyRow ≡ rowOf (after fresh (logOf ss) κ)
-left-row ss κ w h = ap (λ (g : Gatherer). getD (g .rows) κ emptyRow) (runs-held fresh ss (λ κ. tt) w) ∙ held-at (after fresh (logOf ss)) κ h
+left-row ss κ w h = ap (λ (g : Gatherer). getD (g .rows) κ emptyRow) (runs-held fresh ss (λ κ. tt) w) ∙ each-at rowOf (after fresh (logOf ss)) κ emptyRow h
 
 -- a row of a run that lines can leave is not the empty one, and stands
 not-empty : (x : Option (Open Satellite)) → Stands x → (rowOf x ≡ emptyRow → ⊥) → stands (rowOf x) ≡ true

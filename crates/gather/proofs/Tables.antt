@@ -2,9 +2,9 @@
 use Prim.Native.Nat.{ℕ, suc, _+_, _-_, _≤_, _<_}
 use native.Mathlib.Omega.{arith}
 use mathlib.Core.Path.{_≡_, refl, ap, sym, _∙_}
-use mathlib.Core.List.{List, [], _∷_, _++_, map}
+use mathlib.Core.List.{List, [], _∷_, map}
 use mathlib.Core.Bool.{Bool, true, false}
-use mathlib.Core.Option.{Option, none, some}
+use mathlib.Core.Option.{Option, some}
 use borrow.Author.Tests.{eq-eqb, ne-eqb}
 use lib.Dec.{eqb}
 use lib.ListN.{length, take, getD, set, replicate, length-map}
@@ -14,7 +14,6 @@ use Rattle.groups.specs.Step.{Open, Out, Table, pick, step, fresh, next, after}
 use Rattle.groups.specs.Left.{All}
 use Rattle.gsv.specs.Gsv.{Satellite}
 use Rattle.gsv.specs.Answer.{satellite}
-use Rattle.gsv.specs.Talker.{System}
 use Rattle.gsv.specs.declared.SatInfo.{SatInfo}
 use Rattle.rows.specs.Key.{keyOf, rowCount}
 use Rattle.rows.specs.Line.{lineOf}
@@ -60,23 +59,38 @@ module _ {X : Type 0} where
       λ j.
       sym (ap (λ (b : Bool). pick b r (f i)) (ne-eqb m i (λ q. omega arith))) j ∷ rows-set n (suc i) k m f r (omega arith) (omega arith) j
 
+-- what a map makes of each row of a table
+module _ {X : Type 0} (f : Option (Open Satellite) → X) where
+  abbrev pub eachRow : Table Satellite → List X
+  eachRow t = rows rowCount 0 (λ κ. f (t κ))
+
+  pub each-at : (t : Table Satellite) (κ : ℕ) (d : X) → κ < rowCount → getD (eachRow t) κ d ≡ f (t κ)
+  each-at t κ d h = let z : 0 + κ ≡ κ = omega arith in rows-at rowCount 0 κ (λ κ. f (t κ)) d h ∙ ap (λ (k : ℕ). f (t k)) z
+
+  picked : (b : Bool) (x y : Option (Open Satellite)) → pick b (f x) (f y) ≡ f (pick b x y)
+  picked true x y = refl
+  picked false x y = refl
+
+  -- a line changes what is made of its own row, and of no other
+  pub each-next : (t : Table Satellite) (l : GsvSentence)
+      → set (eachRow t) (keyOf (l .system)) (f (step (t (keyOf (l .system))) (lineOf l) .row)) ≡ eachRow (next t (gsv (lineOf l)))
+  each-next t l =
+      let k = keyOf (l .system) in
+      let x = step (t k) (lineOf l) .row in
+      let z : k ≡ 0 + k = omega arith in
+      rows-set rowCount 0 k k (λ κ. f (t κ)) (f x) (key-below (l .system)) z
+      ∙ rows-same rowCount 0 (λ κ. pick (eqb k κ) (f x) (f (t κ))) (λ κ. f (next t (gsv (lineOf l)) κ)) (λ κ h. picked (eqb k κ) x (t κ))
+
 -- the gatherer that holds a table
 abbrev pub held : Table Satellite → Gatherer
-held t = record { rows = rows rowCount 0 (λ κ. rowOf (t κ)) }
+held t = record { rows = eachRow rowOf t }
 
 pub held-fresh : held fresh ≡ freshGatherer
 held-fresh = refl
 
-pub held-at : (t : Table Satellite) (κ : ℕ) → κ < rowCount → getD (held t .rows) κ emptyRow ≡ rowOf (t κ)
-held-at t κ h = let z : 0 + κ ≡ κ = omega arith in rows-at rowCount 0 κ (λ κ. rowOf (t κ)) emptyRow h ∙ ap (λ (k : ℕ). rowOf (t k)) z
-
 -- a table that lines can leave
 abbrev pub AllStand : Table Satellite → Type 0
 AllStand t = (κ : ℕ) → Stands (t κ)
-
-picked : (b : Bool) (x y : Option (Open Satellite)) → pick b (rowOf x) (rowOf y) ≡ rowOf (pick b x y)
-picked true x y = refl
-picked false x y = refl
 
 -- one line: the gatherer holds the next table, and hands out what the step hands out
 pub held-next : (t : Table Satellite) (l : GsvSentence) → AllStand t
@@ -87,20 +101,13 @@ pub held-next : (t : Table Satellite) (l : GsvSentence) → AllStand t
       group = groupOf (step (t (keyOf (l .system))) (lineOf l) .group);
     }
 held-next t l s =
-    ap (λ (r : Row). stored (held t) (l .system) (answer r)) (held-at t k (key-below (l .system)))
+    ap (λ (r : Row). stored (held t) (l .system) (answer r)) (each-at rowOf t k emptyRow (key-below (l .system)))
     ∙ ap (λ (x : Option (Open Satellite)). stored (held t) (l .system) (putOf (step x (lineOf l)))) (round (t k) (s k))
     ∙ ap (λ (rs : List Row). record { gatherer = record { rows = rs }; handed = handedBy (l .system) (isSome (o .group)); group = groupOf (o .group) })
-    (rows-set rowCount 0 k k F (rowOf (o .row)) (key-below (l .system)) (sym z)
-    ∙ rows-same rowCount 0 (λ κ. pick (eqb k κ) (rowOf (o .row)) (F κ)) (λ κ. rowOf (next t (gsv (lineOf l)) κ)) (λ κ h. picked (eqb k κ) (o .row) (t κ)))
+    (each-next rowOf t l)
   where
     k : ℕ
     k = keyOf (l .system)
-
-    F : ℕ → Row
-    F κ = rowOf (t κ)
-
-    z : 0 + k ≡ k
-    z = omega arith
 
     o : Out Satellite
     o = step (t k) (lineOf l)

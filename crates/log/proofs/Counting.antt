@@ -1,26 +1,23 @@
 -- How a count of a whole log goes on: the runs' numbers are those of the gatherer that a walk would have there. Assumes nothing.
-use Prim.Native.Nat.{ℕ, _+_, _-_, _≤_, _<_}
+use Prim.Native.Nat.{ℕ, _-_, _≤_, _<_}
 use native.Mathlib.Omega.{arith}
 use mathlib.Core.Path.{_≡_, refl, ap, sym, _∙_, subst}
 use mathlib.Core.List.{List, []}
-use mathlib.Core.Bool.{Bool, true, false}
-use mathlib.Core.Option.{Option, none, some}
-use lib.Dec.{eqb}
-use lib.ListN.{length, getD, set, replicate, length-set}
+use mathlib.Core.Bool.{Bool, true}
+use lib.ListN.{length, getD, set, replicate}
 use Rattle.lines.specs.Places.{isPlace, lineAt}
 use Rattle.groups.specs.Log.{gsv}
-use Rattle.groups.specs.Step.{Open, Out, Table, pick, step, fresh, next}
+use Rattle.groups.specs.Step.{Table, step, fresh, next}
 use Rattle.gsv.specs.Answer.{gnss}
 use Rattle.gsv.specs.Gsv.{Satellite}
 use Rattle.rows.specs.Key.{keyOf, rowCount}
 use Rattle.rows.specs.Line.{lineOf}
-use Rattle.sentence.specs.Sentence.{GsvSentence}
 use Rattle.sentence.specs.Answer.{gsvSentence}
 use Rattle.sentence.specs.declared.GsvRecord.{GsvRecord}
 use Rattle.gather.specs.Table.{freshGatherer}
 use Rattle.gather.specs.Put.{isSome}
 use Rattle.gather.proofs.Keys.{key-below}
-use Rattle.gather.proofs.Tables.{rows, rows-at, rows-same, rows-set, held, AllStand, held-next, stand-next}
+use Rattle.gather.proofs.Tables.{eachRow, each-at, each-next, held, AllStand, held-next, stand-next}
 use Rattle.log.specs.declared.line.Found.{Found}
 use Rattle.log.specs.declared.line.Found.the-variants.{No, Is}
 use Rattle.log.specs.declared.line.Here.{Here}
@@ -28,7 +25,7 @@ use Rattle.log.specs.declared.totals.Run.{Run}
 use Rattle.log.specs.declared.totals.Turn.{Turn}
 use Rattle.log.specs.declared.walk.Counts.{Counts}
 use Rattle.log.specs.declared.walk.Sort.{Sort}
-use Rattle.log.specs.Line.{saidOf, gsvOf}
+use Rattle.log.specs.Line.{gsvOf}
 use Rattle.log.specs.Walk.{grouped, begin}
 use Rattle.log.specs.Answer.{saidIn, foundIn, SaysHere}
 use Rattle.log.specs.Code.{sortOf, talliedBy, noRun, runOf, turnOf, Turns}
@@ -38,25 +35,7 @@ use Rattle.log.proofs.Runs.{waits}
 
 -- the numbers of a table's runs
 abbrev pub runsOf : Table Satellite → List Run
-runsOf t = rows rowCount 0 (λ κ. runOf (t κ))
-
--- below its length, what a list has at an index does not turn on the default
-runs-at : (t : Table Satellite) (k : ℕ) (d : Run) → k < rowCount → getD (runsOf t) k d ≡ runOf (t k)
-runs-at t k d h = let z : 0 + k ≡ k = omega arith in rows-at rowCount 0 k (λ κ. runOf (t κ)) d h ∙ ap (λ (j : ℕ). runOf (t j)) z
-
-picked : (b : Bool) (x y : Option (Open Satellite)) → pick b (runOf x) (runOf y) ≡ runOf (pick b x y)
-picked true x y = refl
-picked false x y = refl
-
-runs-next : (t : Table Satellite) (l : GsvSentence) (k : ℕ) → k ≡ keyOf (l .system) → (r : Run) → r ≡ runOf (step (t (keyOf (l .system))) (lineOf l) .row)
-    → set (runsOf t) k r ≡ runsOf (next t (gsv (lineOf l)))
-runs-next t l k ek r er =
-    let κ = keyOf (l .system) in
-    let z : κ ≡ 0 + κ = omega arith in
-    let x = step (t κ) (lineOf l) .row in
-    (λ i. set (runsOf t) (ek i) (er i))
-    ∙ rows-set rowCount 0 κ κ (λ j. runOf (t j)) (runOf x) (key-below (l .system)) z
-    ∙ rows-same rowCount 0 (λ j. pick (eqb κ j) (runOf x) (runOf (t j))) (λ j. runOf (next t (gsv (lineOf l)) j)) (λ j h. picked (eqb κ j) x (t j))
+runsOf = eachRow runOf
 
 -- the loop's invariant: some table is behind the numbers, and a walk would hold it
 pub record Counting (log : List ℕ) (c : Counts) (runs : List Run) : Type 0 where
@@ -82,7 +61,7 @@ module _ (log : List ℕ) (c : Counts) (runs : List Run) (now' : Counting log c 
   pub below-nine : (k : ℕ) (d : Run) → k < rowCount → getD runs k d .next ≤ 9
   below-nine k d h =
       let t = now' .table in
-      let e : getD runs k d ≡ runOf (t k) = ap (λ (l : List Run). getD l k d) (now' .are) ∙ runs-at t k d h in
+      let e : getD runs k d ≡ runOf (t k) = ap (λ (l : List Run). getD l k d) (now' .are) ∙ each-at runOf t k d h in
       subst (λ (r : Run). r .next ≤ 9) (sym e) (waits (t k) (now' .stand k))
 
   module _ (in' : c .next < length log) where
@@ -121,12 +100,12 @@ module _ (log : List ℕ) (c : Counts) (runs : List Run) (now' : Counting log c 
             let u = now' .table in
             let κ = keyOf (l .system) in
             let b : k < rowCount = omega (arith, key-below (l .system)) in
-            let q : runOf (u k) ≡ getD runs k d = sym (ap (λ (x : List Run). getD x k d) (now' .are) ∙ runs-at u k d b) in
+            let q : runOf (u k) ≡ getD runs k d = sym (ap (λ (x : List Run). getD x k d) (now' .are) ∙ each-at runOf u k d b) in
             let w : o ≡ turnOf (step (u κ) (lineOf l)) = eo (u k) (now' .stand k) q ∙ ap (λ (j : ℕ). turnOf (step (u j) (lineOf l))) ek in
             record {
               table = next u (gsv (lineOf l));
               stand = stand-next u l (now' .stand) (written (lineAt log (c .next)) l (sym (found-is log (c .next) h sh ef) ∙ ap foundIn e));
-              are = ap (λ (x : List Run). set x k (o .run)) (now' .are) ∙ runs-next u l k ek (o .run) (ap (λ (x : Turn). x .run) w);
+              are = ap (λ (x : List Run). set x k (o .run)) (now' .are) ∙ (λ i. set (runsOf u) (ek i) (w i .run)) ∙ each-next runOf u l;
               goes = after-gathered log 0 (length log) freshGatherer c (held u) (now' .goes) more in' h sh s es t et f ef r e
                   (held (next u (gsv (lineOf l)))) (isSome (step (u κ) (lineOf l) .group)) _ (held-next u l (now' .stand)) refl c'
                   (ec ∙ ap (λ (x : Turn). grouped t (x .handed)) w);

@@ -1,9 +1,9 @@
 -- From place 0 and a fresh gatherer, a step hands out a group exactly where the definition says: the rows hold the theory's table after the
 -- lines before, and the step's line is the next. Assumes nothing.
-use Prim.Native.Nat.{ℕ, zero, suc, _+_, _-_, _≤_, _<_}
+use Prim.Native.Nat.{ℕ, zero, suc, _-_, _≤_, _<_}
 use native.Mathlib.Omega.{arith}
 use mathlib.Core.Path.{_≡_, refl, ap, sym, _∙_, subst}
-use mathlib.Core.Logic.{_⊎_, ⊎-elim, _↔_}
+use mathlib.Core.Logic.{⊎-elim, _↔_}
 use mathlib.Core.List.{List, [], _∷_, map}
 use mathlib.Core.Bool.{true}
 use mathlib.Core.Option.{Option, none, some}
@@ -21,16 +21,14 @@ use Rattle.gsv.specs.Gsv.{Satellite}
 use Rattle.gsv.specs.Talker.{System, beidou, galileo, gps, glonass, navic, qzss}
 use Rattle.rows.specs.Key.{keyOf}
 use Rattle.rows.specs.Line.{lineOf}
-use Rattle.sentence.specs.Sentence.{Answer, isRmc, isGsa, isGsv, isOther, isRefused, GsvSentence}
-use Rattle.sentence.specs.Sentence.{answer as answerOf}
-use Rattle.short.specs.Room.{Written}
+use Rattle.sentence.specs.Sentence.{GsvSentence}
 use Rattle.gather.specs.Put.{isSome, groupOf}
 use Rattle.gather.specs.Table.{freshGatherer, handedBy}
 use Rattle.gather.specs.declared.table.Gatherer.{Gatherer}
 use Rattle.gather.specs.declared.table.Gathered.{Gathered}
 use Rattle.gather.proofs.Tables.{held, AllStand, held-next, stand-next, group-same}
-use Rattle.log.specs.Line.{Said, blank, read, saidOf, gsvOf, gathers}
-use Rattle.log.specs.Step.{longest, Stepped, line, stepOf}
+use Rattle.log.specs.Line.{Said, blank, saidOf, gsvOf, gathers}
+use Rattle.log.specs.Step.{longest, Stepped, line}
 use Rattle.log.specs.Walk.{Going, begin, steps}
 use Rattle.log.specs.Totals.{gathered}
 use Rattle.log.specs.Told.{seen, says, seenOf, told, handedKey, Gives, stepAfter, lineIn}

@@ -2,35 +2,29 @@
 use Prim.Native.Nat.{ℕ, _+_, _≤_, _<_}
 use native.Mathlib.Omega.{arith}
 use mathlib.Core.Path.{_≡_, refl, ap, sym, _∙_}
-use mathlib.Core.List.{List, [], _++_}
-use mathlib.Core.Bool.{Bool, true, false, not, _&&_}
+use mathlib.Core.List.{List, []}
+use mathlib.Core.Bool.{Bool, true, false, not, _&&_, and-false}
 use mathlib.Core.Option.{Option, none, some}
 use borrow.Author.Tests.{eq-eqb, ne-eqb, le-leb, lt-leb, leb-true, not-true, not-false}
 use lib.Dec.{eqb, leb}
 use Rattle.groups.specs.Log.{Gsv}
-use Rattle.groups.specs.Step.{Open, Out, pick, goesOn, onward, sofar, taken, step}
+use Rattle.groups.specs.Step.{Open, pick, goesOn, onward, sofar, taken}
 use Rattle.gsv.specs.Gsv.{Satellite}
 use Rattle.rows.specs.Line.{lineOf}
-use Rattle.rows.specs.Leave.{Stands, leavable}
+use Rattle.rows.specs.Leave.{Stands}
 use Rattle.sentence.specs.Sentence.{GsvSentence}
 use Rattle.gather.proofs.Padding.{both}
 use Rattle.log.specs.declared.totals.Run.{Run}
-use Rattle.log.specs.declared.totals.Turn.{Turn}
 use Rattle.log.specs.Code.{noRun, runOf, turnOf, isRun, Follows, Turns}
 
--- and that no line numbered 0 or 1 is waited for
+pub never : false ≡ true → ⊥
+never e = let z : _≡_ {A = ℕ} 0 1 = cc in omega arith
+
+-- a run that stands waits for no line numbered 0 or 1
 waits-two : (o : Open Satellite) → Stands (some o) → 2 ≤ o .next
 waits-two o s = leb-true 2 (o .next) (both (leb 2 (o .next)) _ s .0)
 
-first-false : (a b : Bool) → a ≡ false → a && b ≡ false
-first-false true b e = absurd (let w : _≡_ {A = ℕ} 0 1 = cc in omega arith)
-first-false false b e = refl
-
-second-false : (a b : Bool) → b ≡ false → a && b ≡ false
-second-false true b e = e
-second-false false b e = refl
-
--- a run that stands waits for a line up to the ninth
+-- and for none above the ninth
 pub waits : (x : Option (Open Satellite)) → Stands x → runOf x .next ≤ 9
 waits none s = omega arith
 waits (some o) s =
@@ -76,17 +70,14 @@ module _ (run : Run) (s : GsvSentence) where
     breaks : ((o : Open Satellite) → runOf (some o) ≡ run → Stands (some o) → goesOn o g ≡ false) → Follows run s false
     breaks h = record { right = λ x t e. ap isRun (on x) ∙ go x t e; early = λ z. absurd (never z) }
       where
-        never : false ≡ true → ⊥
-        never z = let w : _≡_ {A = ℕ} 0 1 = cc in omega arith
-
         go : (x : Option (Open Satellite)) → Stands x → runOf x ≡ run → isRun (onward x g) ≡ false
         go none t e = refl
         go (some o) t e = stays o false (h o e t)
 
     not-there : (o : Open Satellite) → (s .body .index ≡ o .next → ⊥) → goesOn o g ≡ false
     not-there o n =
-        second-false (eqb (s .body .count) (o .n)) (eqb (s .body .index) (o .next) && eqb (s .body .view) (o .view))
-        (first-false (eqb (s .body .index) (o .next)) (eqb (s .body .view) (o .view)) (ne-eqb (s .body .index) (o .next) n))
+        ap (λ (t : Bool). eqb (s .body .count) (o .n) && (t && eqb (s .body .view) (o .view))) (ne-eqb (s .body .index) (o .next) n)
+        ∙ and-false (eqb (s .body .count) (o .n))
 
     pub number-zero : s .body .index < 1 → Follows run s false
     number-zero z =
@@ -97,7 +88,7 @@ module _ (run : Run) (s : GsvSentence) where
         breaks (λ o e t. not-there o (λ q. n (q ∙ ap (λ (r : Run). r .next) e)))
 
     pub other-count : (s .body .count ≡ run .n → ⊥) → Follows run s false
-    other-count n = breaks (λ o e t. first-false (eqb (s .body .count) (o .n)) (eqb (s .body .index) (o .next) && eqb (s .body .view) (o .view)) (ne-eqb (s .body .count) (o .n) (λ q. n (q ∙ ap (λ (r : Run). r .n) e))))
+    other-count n = breaks (λ o e t. ap (λ (t : Bool). t && (eqb (s .body .index) (o .next) && eqb (s .body .view) (o .view))) (ne-eqb (s .body .count) (o .n) (λ q. n (q ∙ ap (λ (r : Run). r .n) e))))
 
     pub same-numbers : 1 ≤ s .body .index → s .body .index ≡ run .next → run .next ≤ 9 → s .body .count ≡ run .n
         → Follows run s (eqb (s .body .view) (run .view))
@@ -116,16 +107,16 @@ module _ (run : Run) (s : GsvSentence) where
 module _ (run : Run) (s : GsvSentence) {b : Bool} (f : Follows run s b) where
   broken : (x : Option (List Satellite)) → isRun x ≡ false → taken x (lineOf s) ≡ record { row = none; group = none }
   broken none e = refl
-  broken (some es) e = absurd (let w : _≡_ {A = ℕ} 0 1 = cc in omega arith)
+  broken (some es) e = absurd (never (sym e))
 
   last : (x : Option (List Satellite)) → isRun x ≡ true → s .body .index ≡ s .body .count
       → turnOf (taken x (lineOf s)) ≡ record { run = noRun; handed = true }
-  last none e q = absurd (let w : _≡_ {A = ℕ} 0 1 = cc in omega arith)
+  last none e q = absurd (never e)
   last (some es) e q = rw (eq-eqb (s .body .index) (s .body .count) q) refl
 
   more : (x : Option (List Satellite)) → isRun x ≡ true → (s .body .index ≡ s .body .count → ⊥)
       → turnOf (taken x (lineOf s)) ≡ record { run = record { n = s .body .count; next = s .body .index + 1; view = s .body .view }; handed = false }
-  more none e q = absurd (let w : _≡_ {A = ℕ} 0 1 = cc in omega arith)
+  more none e q = absurd (never e)
   more (some es) e q = rw (ne-eqb (s .body .index) (s .body .count) q) refl
 
   pub turn-broken : not b ≡ true → (r : Run) → r ≡ noRun → Turns run s (record { run = r; handed = false })

@@ -1,5 +1,5 @@
 -- `judged` meets its contract: type by type. Assumes nothing.
-use mathlib.Core.Path.{refl, ap, sym, _∙_}
+use mathlib.Core.Path.{refl, ap, _∙_}
 use mathlib.Core.List.{[]}
 use lib.ListN.{take}
 use denote.Ref.{now}

@@ -1,5 +1,5 @@
 -- `on_gsa` meets its contract. Assumes nothing.
-use mathlib.Core.Path.{refl, ap, sym}
+use mathlib.Core.Path.{refl}
 use borrow.Author.Needs.{needs}
 use Rattle.sentence.proofs.on_gsa.Statement.{statement}
 use Rattle.sentence.proofs.on_gsa.Tie as tie

@@ -1,5 +1,5 @@
 -- `on_gsv` meets its contract. Assumes nothing.
-use mathlib.Core.Path.{refl, ap, sym}
+use mathlib.Core.Path.{refl}
 use borrow.Author.Needs.{needs}
 use Rattle.sentence.proofs.on_gsv.Statement.{statement}
 use Rattle.sentence.proofs.on_gsv.Tie as tie

@@ -1,5 +1,5 @@
 -- `on_rmc` meets its contract. Assumes nothing.
-use mathlib.Core.Path.{refl, ap, sym}
+use mathlib.Core.Path.{refl}
 use borrow.Author.Needs.{needs}
 use Rattle.sentence.proofs.on_rmc.Statement.{statement}
 use Rattle.sentence.proofs.on_rmc.Tie as tie

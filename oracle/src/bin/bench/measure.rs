@@ -32,6 +32,9 @@ pub fn run() -> Result<(), Box<dyn Error>> {
     let mut whole_ratios = vec![];
     for class in ["rmc", "gsa", "gsv", "other", "refused"] {
         let lines = of(class);
+        if lines.is_empty() {
+            return Err(format!("the logs have no line of the class {class}").into());
+        }
         let bytes: usize = lines.iter().map(|line| line.len()).sum();
         let times = medians(
             rounds,

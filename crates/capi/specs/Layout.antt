@@ -1,7 +1,7 @@
 -- The words of an answer, as docs/ABI.md has them: 40, and what is not named is 0.
 use Prim.Native.Nat.{ℕ, zero, suc}
 use mathlib.Core.List.{List, [], _∷_, _++_}
-use mathlib.Core.Option.{Option, none, some}
+use mathlib.Core.Option.{Option, none, some, Option·getD}
 use lib.ListN.{length, replicate}
 use lib.IntN.{ℤ, pos, negsuc, natAbs}
 use lib.Ieee.{Float, binary32, binary64}
@@ -50,11 +50,6 @@ bits32 x = bitsOf binary32 0x7FC00000 x
 abbrev pub bits64 : Float → ℕ
 bits64 x = bitsOf binary64 0x7FF8000000000000 x
 
--- a letter or a system number that may be absent
-abbrev pub orZero : Option ℕ → ℕ
-orZero none = 0
-orZero (some n) = n
-
 -- a number with a 1 before it if it is present
 abbrev pub optionWords : Option ℕ → List ℕ
 optionWords none = zeros 2
@@ -96,7 +91,7 @@ rmcWords r =
     ++ (shortWords (r .motion .course)
     ++ (dateWords (r .motion .date)
     ++ (shortWords (r .ending .variation)
-    ++ (orZero (r .ending .letters .mode) ∷ orZero (r .ending .letters .status) ∷ zeros 3))))))))
+    ++ (Option·getD (r .ending .letters .mode) 0 ∷ Option·getD (r .ending .letters .status) 0 ∷ zeros 3))))))))
 
 -- GSA 6 to 18
 abbrev pub dopsWords : Option Dops → List ℕ
@@ -105,7 +100,7 @@ dopsWords (some d) = 1 ∷ (dopWords (d .pdop) ++ (dopWords (d .hdop) ++ dopWord
 
 -- GSA 0 to 18: talker, mode, fix, system and dilutions
 abbrev pub gsaHead : List ℕ → ℕ → ℕ → Option ℕ → Option Dops → List ℕ
-gsaHead talker mode fix system dops = 2 ∷ (padded 2 talker ++ (mode ∷ fix ∷ orZero system ∷ dopsWords dops))
+gsaHead talker mode fix system dops = 2 ∷ (padded 2 talker ++ (mode ∷ fix ∷ Option·getD system 0 ∷ dopsWords dops))
 
 -- GSA 19 and on: the count of satellites, and the satellites
 abbrev pub gsaTail : ℕ → List ℕ → List ℕ

@@ -3,7 +3,6 @@ use Prim.Native.Nat.{ℕ, _≤_, _<_}
 use mathlib.Core.Path.{_≡_}
 use mathlib.Core.List.{List, [], _∷_, _++_}
 use lib.ListN.{length, drop}
-use Rattle.frame.specs.Refused.{Refused}
 use Rattle.gather.specs.Table.{freshGatherer}
 use Rattle.log.specs.Walk.{Walk, barred, went, walkOf}
 use Rattle.log.specs.declared.walk.Counts.{Counts}

@@ -1,6 +1,7 @@
 // What C and Rust call: a line's refusal number, and its whole answer in 40 words.
 pub mod totals;
 
+ghost use mathlib.Core.Option.{Option·getD};
 ghost use mathlib.Core.Path.{_≡_};
 ghost use mathlib.Core.List.{_++_, _∷_};
 ghost use Prim.Native.Nat.{_≤_};
@@ -15,7 +16,7 @@ ghost use Rattle.gsv.specs.Answer.{gnss, slot};
 ghost use Rattle.rmc.specs.Answer.{timeHeld, dateHeld, positionHeld, shortHeld, letterHeld, rmcData};
 ghost use Rattle.sentence.specs.Sentence.{answer};
 ghost use Rattle.sentence.specs.Answer.{gsvSentence};
-ghost use Rattle.capi.specs.Layout.{refusalNumber, zeros, sign, orZero, optionWords, timeWords, coordinateWords, positionWords, dopWords, shortWords, dateWords, dopsWords, systemNumber, entryWords, carriedWords, rmcWords, gsvWords, otherWords, refusedWords};
+ghost use Rattle.capi.specs.Layout.{refusalNumber, zeros, sign, optionWords, timeWords, coordinateWords, positionWords, dopWords, shortWords, dateWords, dopsWords, systemNumber, entryWords, carriedWords, rmcWords, gsvWords, otherWords, refusedWords};
 ghost use Rattle.capi.specs.Answer.{ofOption, ofTime, ofCoordinate, ofPosition, ofDop, ofShort, ofDate, ofDops, ofEntry, ofCarried, gsaRow, recordWords, Answered};
 use decimal::ShortDecimal;
 use fields::Coordinate;
@@ -84,7 +85,7 @@ fn option_words(h: Held) -> OptionWords
 
 // A letter that may be absent.
 fn letter_word(l: LetterHeld) -> u64
-    ensures { λ r. ⌜ r ≡ orZero (letterHeld l) ⌝ }
+    ensures { λ r. ⌜ r ≡ Option·getD (letterHeld l) 0 ⌝ }
 {
     match l {
         LetterHeld::Absent => 0,
@@ -94,7 +95,7 @@ fn letter_word(l: LetterHeld) -> u64
 
 // A system number that may be absent.
 fn system_word(s: System) -> u64
-    ensures { λ r. ⌜ r ≡ orZero (system s) ⌝ }
+    ensures { λ r. ⌜ r ≡ Option·getD (system s) 0 ⌝ }
 {
     match s {
         System::Absent => 0,

@@ -12,8 +12,8 @@ use lib.Dec.{leb, ltb, eqb}
 use borrow.Author.Tests.{leb-true, ltb-true}
 use Rattle.text.specs.Bytes.{byte}
 use Rattle.text.specs.Reader.{got}
-use Rattle.text.specs.Number.{digits, afterDigits, valueFrom, onlyDigits}
-use Rattle.decimal.specs.Decimal.{Limits, Decimal, unsigned, text, past, fraction, fits, within, plain, orNumber, decimal}
+use Rattle.text.specs.Number.{leadingDigits, afterDigits, valueFrom, onlyDigits}
+use Rattle.decimal.specs.Decimal.{Limits, Decimal, withoutSign, text, fromComma, fraction, inLimits, within, plain, orNumber, decimal}
 use Rattle.text.specs.Placed.{Reads}
 use Rattle.text.proofs.Places.{took}
 use Rattle.decimal.specs.Answer.{found}
@@ -34,7 +34,7 @@ both-lt : (v m w n : ℕ) → v < 10 ^ m → w < (v + 1) * 10 ^ n → w < 10 ^ m
 both-lt v m w n h k = let g : (v + 1) * 10 ^ n ≤ 10 ^ m * 10 ^ n = mul-le-mul-right (10 ^ n) (omega arith) in omega arith
 
 sized : (lim : Limits) (v m w n : ℕ) → 0 < m → v < 10 ^ m → w < (v + 1) * 10 ^ n → m ≤ lim .before → n ≤ lim .after → m + n ≤ lim .all
-    → Bounded lim (unsigned w n)
+    → Bounded lim (withoutSign w n)
 sized lim v m w n z h k a b c =
     let g = both-lt v m w n h k in
     let p = under (m + n) (lim .all) c in
@@ -47,7 +47,7 @@ pub record Fit (lim : Limits) (m n : ℕ) : Type 0 where
   pub after : n ≤ lim .after
   pub all : m + n ≤ lim .all
 
-pub fitting : (lim : Limits) (m n : ℕ) → fits lim m n ≡ true → Fit lim m n
+pub fitting : (lim : Limits) (m n : ℕ) → inLimits lim m n ≡ true → Fit lim m n
 fitting lim m n e = by (leb m (lim .before)) (leb n (lim .after)) (leb (m + n) (lim .all)) refl refl refl e
   where
     by : (t u v : Bool) → leb m (lim .before) ≡ t → leb n (lim .after) ≡ u → leb (m + n) (lim .all) ≡ v → (t && u && v) ≡ true → Fit lim m n
@@ -64,27 +64,27 @@ tail : (l es : List ℕ) → fraction l ≡ some es → Tail l es
 tail [] es e = let h : [] ≡ es = cc in subst (λ (x : List ℕ). Tail [] x) h (record { lt = λ v. omega arith })
 tail (b ∷ l) es e = by (eqb b (byte ".") && onlyDigits l) e
   where
-    by : (t : Bool) → cond {A = Option (List ℕ)} t (some (digits l)) none ≡ some es → Tail (b ∷ l) es
-    by true e = let h : digits l ≡ es = cc in subst (λ (x : List ℕ). Tail (b ∷ l) x) h (record { lt = λ v. value-lt v l })
+    by : (t : Bool) → cond {A = Option (List ℕ)} t (some (leadingDigits l)) none ≡ some es → Tail (b ∷ l) es
+    by true e = let h : leadingDigits l ≡ es = cc in subst (λ (x : List ℕ). Tail (b ∷ l) x) h (record { lt = λ v. value-lt v l })
     by false e = let y : _≡_ {A = ℕ} 0 1 = cc in absurd (omega arith)
 
 pub plain-bounded : (lim : Limits) (t : List ℕ) {d : Decimal} → plain lim t ≡ some d → Bounded lim d
-plain-bounded lim t {d} e = by (ltb 0 (length (digits t))) (fraction (afterDigits t)) refl refl e
+plain-bounded lim t {d} e = by (ltb 0 (length (leadingDigits t))) (fraction (afterDigits t)) refl refl e
   where
-    in-limits : (es : List ℕ) (u : Bool) → fits lim (length (digits t)) (length es) ≡ u → 0 < length (digits t) → fraction (afterDigits t) ≡ some es
-        → cond {A = Option Decimal} u (some (unsigned (valueFrom (valueFrom 0 (digits t)) es) (length es))) none ≡ some d → Bounded lim d
+    in-limits : (es : List ℕ) (u : Bool) → inLimits lim (length (leadingDigits t)) (length es) ≡ u → 0 < length (leadingDigits t) → fraction (afterDigits t) ≡ some es
+        → cond {A = Option Decimal} u (some (withoutSign (valueFrom (valueFrom 0 (leadingDigits t)) es) (length es))) none ≡ some d → Bounded lim d
     in-limits es true f z g e =
-        let h : unsigned (valueFrom (valueFrom 0 (digits t)) es) (length es) ≡ d = cc in
-        let k = fitting lim (length (digits t)) (length es) f in
+        let h : withoutSign (valueFrom (valueFrom 0 (leadingDigits t)) es) (length es) ≡ d = cc in
+        let k = fitting lim (length (leadingDigits t)) (length es) f in
         subst (λ (x : Decimal). Bounded lim x) h
-        (sized lim (valueFrom 0 (digits t)) (length (digits t)) (valueFrom (valueFrom 0 (digits t)) es) (length es) z
-        (omega (arith, value-lt 0 t)) (tail (afterDigits t) es g .lt (valueFrom 0 (digits t))) (k .before) (k .after) (k .all))
+        (sized lim (valueFrom 0 (leadingDigits t)) (length (leadingDigits t)) (valueFrom (valueFrom 0 (leadingDigits t)) es) (length es) z
+        (omega (arith, value-lt 0 t)) (tail (afterDigits t) es g .lt (valueFrom 0 (leadingDigits t))) (k .before) (k .after) (k .all))
     in-limits es false f z g e = let y : _≡_ {A = ℕ} 0 1 = cc in absurd (omega arith)
 
-    by : (u : Bool) (f : Option (List ℕ)) → ltb 0 (length (digits t)) ≡ u → fraction (afterDigits t) ≡ f
-        → cond u (within lim (digits t) f) none ≡ some d → Bounded lim d
+    by : (u : Bool) (f : Option (List ℕ)) → ltb 0 (length (leadingDigits t)) ≡ u → fraction (afterDigits t) ≡ f
+        → cond u (within lim (leadingDigits t) f) none ≡ some d → Bounded lim d
     by true none g h e = let y : _≡_ {A = ℕ} 0 1 = cc in absurd (omega arith)
-    by true (some es) g h e = in-limits es (fits lim (length (digits t)) (length es)) refl (ltb-true _ _ g) h e
+    by true (some es) g h e = in-limits es (inLimits lim (length (leadingDigits t)) (length es)) refl (ltb-true _ _ g) h e
     by false f g h e = let y : _≡_ {A = ℕ} 0 1 = cc in absurd (omega arith)
 
 -- a decimal that a place holds is within the limits
@@ -92,17 +92,17 @@ pub bounded : (lim : Limits) (l : List ℕ) {d : Decimal} {m : List ℕ} → dec
 unfolding decimal
 bounded lim l {d} {m} e = by (eqb (length (text l)) 0) e
   where
-    plainly : (o : Option Decimal) → plain lim (text l) ≡ o → orNumber o (past l) ≡ got (some d) m → Bounded lim d
+    plainly : (o : Option Decimal) → plain lim (text l) ≡ o → orNumber o (fromComma l) ≡ got (some d) m → Bounded lim d
     plainly none f e = let y : _≡_ {A = ℕ} 0 1 = cc in absurd (omega arith)
     plainly (some d′) f e =
         let h : d′ ≡ d = cc in
         subst (λ (x : Decimal). Bounded lim x) h (plain-bounded lim (text l) f)
 
-    by : (t : Bool) → cond t (got none (past l)) (orNumber (plain lim (text l)) (past l)) ≡ got (some d) m → Bounded lim d
+    by : (t : Bool) → cond t (got none (fromComma l)) (orNumber (plain lim (text l)) (fromComma l)) ≡ got (some d) m → Bounded lim d
     by true e = let y : _≡_ {A = ℕ} 0 1 = cc in absurd (omega arith)
     by false e = plainly (plain lim (text l)) refl e
 
 -- the same of the code's answer
 pub held : {s : List ℕ} {at : ℕ} (lim : Limits) {r : Found} {n k p : ℕ} → Reads s at (decimal lim) (found r) → r ≡ Is n k p
-    → Bounded lim (unsigned n k)
+    → Bounded lim (withoutSign n k)
 held lim t e = bounded lim _ (took t (ap found e) .reads)

@@ -1,18 +1,18 @@
 -- One operation on two values that are not negative is one rounding of the exact result, by whichever fractions the operands are written. Assumes nothing.
 use mathlib.Core.Path.{_≡_, refl, sym, ap, _∙_, subst}
-use Prim.Native.Nat.{ℕ, zero, suc, _+_, _-_, _*_, _^_, _≤_, _<_, min}
-use native.Mathlib.Nat.{mul-one, mul-comm, mul-assoc, mul-left-comm, mul-pos, zero-mul, add-mul}
+use Prim.Native.Nat.{ℕ, _-_, _*_, _^_, _≤_, _<_, min}
+use native.Mathlib.Nat.{mul-one, mul-comm, mul-assoc, mul-left-comm, mul-pos, zero-mul}
 use native.Mathlib.Omega.{arith}
-use mathlib.Core.Bool.{Bool, true, false, not, cond, true≢false}
-use lib.Dec.{T, ltb, eqb, le→leb, eqb→eq, lit<}
+use mathlib.Core.Bool.{Bool, true, false, cond, true≢false}
+use lib.Dec.{T, eqb, le→leb, eqb→eq, lit<}
 use lib.IntN.{ℤ, pos}
-use lib.Ieee.{Float, nan, inf, fin, Format, prec, up, down, low, emax, odd, units, round, neg, sum, add, div, ofInt, inFloat, isNan}
-use lib.Ieee.Fits.{down-pos, round-is}
+use lib.Ieee.{Float, nan, inf, fin, Format, prec, up, down, round, div, ofInt, inFloat}
+use lib.Ieee.Fits.{down-pos}
 use lib.Ieee.Exact.{HasValue}
 use lib.Ieee.Back.{round-whole}
 use lib.Ieee.Scale.{round-same}
 use lib.Ieee.Positive.{first-pos}
-use Rattle.decimal.proofs.Power.{ten-pos, parts, capped}
+use Rattle.decimal.proofs.Power.{ten-pos, capped}
 
 -- ---- whole numbers up to 2 ^ prec
 pub in-float : (f : Format) (n : ℕ) → n ≤ 2 ^ prec f → T (inFloat f (pos n))
@@ -59,30 +59,6 @@ div-at f (fin false m e) (fin false n g) a c b d C B D h k =
         let p : 0 < b * down g = mul-pos B (down-pos g) in
         first-pos (n * up g) d (subst (λ (x : ℕ). 0 < x) (sym k) p)
 
--- ---- the sum of a / c and b / d
-cross-sum : (x y de dd a c b d : ℕ) → x * c ≡ a * de → y * d ≡ b * dd → (x * dd + y * de) * (c * d) ≡ (a * d + b * c) * (de * dd)
-cross-sum x y de dd a c b d h k =
-    let l : x * dd * (c * d) ≡ x * c * (d * dd) = simp (mul-assoc, mul-comm, mul-left-comm) in
-    let l' : y * de * (c * d) ≡ y * d * (c * de) = simp (mul-assoc, mul-comm, mul-left-comm) in
-    let r : a * d * (de * dd) ≡ a * de * (d * dd) = simp (mul-assoc, mul-comm, mul-left-comm) in
-    let r' : b * c * (de * dd) ≡ b * dd * (c * de) = simp (mul-assoc, mul-comm, mul-left-comm) in
-    let p : x * c * (d * dd) ≡ a * de * (d * dd) = ap (λ (z : ℕ). z * (d * dd)) h in
-    let q : y * d * (c * de) ≡ b * dd * (c * de) = ap (λ (z : ℕ). z * (c * de)) k in
-    let u : (x * dd + y * de) * (c * d) ≡ x * dd * (c * d) + y * de * (c * d) = add-mul (x * dd) (y * de) (c * d) in
-    let v : (a * d + b * c) * (de * dd) ≡ a * d * (de * dd) + b * c * (de * dd) = add-mul (a * d) (b * c) (de * dd) in
-    omega arith
-
-pub add-at : (f : Format) (x y : Float) (a c b d : ℕ) → 0 < c → 0 < d → HasValue x false a c → HasValue y false b d → add f x y ≡ round f false (a * d + b * c) (c * d)
-unfolding add sum
-add-at f nan y a c b d C D h k = absurd h
-add-at f (inf s) y a c b d C D h k = absurd h
-add-at f (fin s m e) nan a c b d C D h k = absurd k
-add-at f (fin s m e) (inf t) a c b d C D h k = absurd k
-add-at f (fin true m e) (fin t n g) a c b d C D h k = absurd (true≢false (h .0))
-add-at f (fin false m e) (fin true n g) a c b d C D h k = absurd (true≢false (k .0))
-add-at f (fin false m e) (fin false n g) a c b d C D h k =
-    round-same f false (m * up e * down g + n * up g * down e) (down e * down g) (a * d + b * c) (c * d) (mul-pos (down-pos e) (down-pos g)) (mul-pos C D) (cross-sum (m * up e) (n * up g) (down e) (down g) a c b d (h .1) (k .1))
-
 -- ---- the quotient of two whole numbers that the format counts without a gap: one rounding of the exact quotient
 pub div-whole : (f : Format) (a b : ℕ) → a ≤ 2 ^ prec f → 0 < b → b ≤ 2 ^ prec f → div f (ofInt f (pos a)) (ofInt f (pos b)) ≡ round f false a b
 div-whole f a b h B k =
@@ -95,39 +71,3 @@ pub divided : (f : Format) (n k : ℕ) {p : ℕ} → n ≤ 2 ^ prec f → k ≤ 
     → div f (ofInt f (pos n)) (ofInt f (pos p)) ≡ round f false n (10 ^ k)
 divided f n k h j i e =
     ap (λ (x : ℕ). div f (ofInt f (pos n)) (ofInt f (pos x))) (capped k j e) ∙ div-whole f n (10 ^ k) h (ten-pos k) i
-
--- ---- the sign goes through a rounding
-neg-odd : (d q k l : ℕ) → neg (odd d false q k l) ≡ odd d true q k l
-unfolding neg odd
-neg-odd d zero k l = refl
-neg-odd d (suc q) k l = refl
-
-neg-units : (f : Format) (q k : ℕ) → neg (units f false q k) ≡ units f true q k
-unfolding units neg
-neg-units f q k = go (ltb (q * 2 ^ k) (2 ^ (low f + suc (emax f))))
-  where
-    go : (b : Bool) → neg (cond b (odd (suc (prec f)) false q k (low f)) (inf false)) ≡ cond b (odd (suc (prec f)) true q k (low f)) (inf true)
-    go true = neg-odd (suc (prec f)) q k (low f)
-    go false = refl
-
-pub neg-round : (f : Format) (a b : ℕ) → neg (round f false a b) ≡ round f true a b
-neg-round f a b = ap neg (round-is f false a b) ∙ neg-units f _ _ ∙ sym (round-is f true a b)
-
--- ---- zeros after the decimals change nothing: the same number of minutes is the same float
-pub same-decimal : (f : Format) (s : Bool) (w k n : ℕ) → k ≤ n → round f s w (10 ^ k) ≡ round f s (w * 10 ^ (n - k)) (10 ^ n)
-same-decimal f s w k n h =
-    round-same f s w (10 ^ k) (w * 10 ^ (n - k)) (10 ^ n) (ten-pos k) (ten-pos n)
-    (ap (λ (x : ℕ). w * x) (sym (parts k n h)) ∙ simp (mul-assoc, mul-comm, mul-left-comm))
-
--- ---- a rounded fraction is no NaN
-units-no-nan : (f : Format) (s : Bool) (q k : ℕ) → T (not (isNan (units f s q k)))
-unfolding units isNan odd
-units-no-nan f s q k = go (ltb (q * 2 ^ k) (2 ^ (low f + suc (emax f)))) q
-  where
-    go : (b : Bool) (p : ℕ) → T (not (isNan (cond b (odd (suc (prec f)) s p k (low f)) (inf s))))
-    go true zero = tt
-    go true (suc p) = tt
-    go false p = tt
-
-pub round-no-nan : (f : Format) (s : Bool) (a b : ℕ) → T (not (isNan (round f s a b)))
-round-no-nan f s a b = subst (λ (x : Float). T (not (isNan x))) (sym (round-is f s a b)) (units-no-nan f s _ _)

@@ -12,41 +12,41 @@ use lib.Dec.{ltb, eqb}
 use borrow.Author.Tests.{lt-ltb, ltb-true, eqb-true, ne-eqb}
 use Rattle.text.specs.Bytes.{byte}
 use Rattle.text.specs.Reader.{Parse, refuse, got, Number}
-use Rattle.text.specs.Number.{isDigit, digits, afterDigits, valueFrom, onlyDigits}
-use Rattle.decimal.specs.Decimal.{Limits, Decimal, unsigned, text, past, fraction, fits, within, plain, orNumber, decimal}
-use Rattle.decimal.specs.Plain.{AllDigits, none as no-digits, more, Digits, Plain, whole, pointed}
+use Rattle.text.specs.Number.{isDigit, leadingDigits, afterDigits, valueFrom, onlyDigits}
+use Rattle.decimal.specs.Decimal.{Limits, Decimal, withoutSign, text, fromComma, fraction, inLimits, within, plain, orNumber, decimal}
+use Rattle.decimal.specs.Plain.{AllDigits, noMore, more, Digits, Plain, unpointed, pointed}
 use Rattle.decimal.proofs.Decimals.{fit}
 use Rattle.decimal.proofs.Bounds.{Fit, fitting}
 
 -- a text is the digits at its front and what follows them
-together : (l : List ℕ) → digits l ++ afterDigits l ≡ l
+together : (l : List ℕ) → leadingDigits l ++ afterDigits l ≡ l
 together [] = refl
 together (b ∷ l) = by (isDigit b) (together l)
   where
-    by : (t : Bool) → digits l ++ afterDigits l ≡ l → cond t (b ∷ digits l) [] ++ cond t (afterDigits l) (b ∷ l) ≡ b ∷ l
+    by : (t : Bool) → leadingDigits l ++ afterDigits l ≡ l → cond t (b ∷ leadingDigits l) [] ++ cond t (afterDigits l) (b ∷ l) ≡ b ∷ l
     by true h = ap (λ (x : List ℕ). b ∷ x) h
     by false h = refl
 
-all-digits : (l : List ℕ) → AllDigits (digits l)
-all-digits [] = no-digits
+all-digits : (l : List ℕ) → AllDigits (leadingDigits l)
+all-digits [] = noMore
 all-digits (b ∷ l) = by (isDigit b) refl (all-digits l)
   where
-    by : (t : Bool) → isDigit b ≡ t → AllDigits (digits l) → AllDigits (cond t (b ∷ digits l) [])
+    by : (t : Bool) → isDigit b ≡ t → AllDigits (leadingDigits l) → AllDigits (cond t (b ∷ leadingDigits l) [])
     by true e h = more e h
-    by false e h = no-digits
+    by false e h = noMore
 
 -- digits, and then a text that does not go on with one
-front : {ds : List ℕ} (m : List ℕ) → AllDigits ds → digits m ≡ [] → digits (ds ++ m) ≡ ds
-front m no-digits e = e
-front m (more {b} {l} f h) e = ap (λ (t : Bool). cond t (b ∷ digits (l ++ m)) []) f ∙ ap (λ (x : List ℕ). b ∷ x) (front m h e)
+front : {ds : List ℕ} (m : List ℕ) → AllDigits ds → leadingDigits m ≡ [] → leadingDigits (ds ++ m) ≡ ds
+front m noMore e = e
+front m (more {b} {l} f h) e = ap (λ (t : Bool). cond t (b ∷ leadingDigits (l ++ m)) []) f ∙ ap (λ (x : List ℕ). b ∷ x) (front m h e)
 
 back : {ds : List ℕ} (m : List ℕ) → AllDigits ds → afterDigits m ≡ m → afterDigits (ds ++ m) ≡ m
-back m no-digits e = e
+back m noMore e = e
 back m (more {b} {l} f h) e = ap (λ (t : Bool). cond t (afterDigits (l ++ m)) (b ∷ (l ++ m))) f ∙ back m h e
 
 -- digits alone
-alone : {ds : List ℕ} → AllDigits ds → digits ds ≡ ds
-alone {ds} h = ap digits (sym (append-nil ds)) ∙ front [] h refl
+alone : {ds : List ℕ} → AllDigits ds → leadingDigits ds ≡ ds
+alone {ds} h = ap leadingDigits (sym (append-nil ds)) ∙ front [] h refl
 
 nothing-after : {ds : List ℕ} → AllDigits ds → afterDigits ds ≡ []
 nothing-after {ds} h = ap afterDigits (sym (append-nil ds)) ∙ back [] h refl
@@ -66,70 +66,70 @@ data Behind : List ℕ → List ℕ → Type 0 where
 
 behind : (m : List ℕ) {es : List ℕ} → fraction m ≡ some es → Behind m es
 behind [] {es} e = let h : [] ≡ es = cc in subst (λ (x : List ℕ). Behind [] x) h end
-behind (b ∷ l) {es} e = by (eqb b (byte ".")) (ltb 0 (length (digits l))) (eqb (length (afterDigits l)) 0) refl refl refl e
+behind (b ∷ l) {es} e = by (eqb b (byte ".")) (ltb 0 (length (leadingDigits l))) (eqb (length (afterDigits l)) 0) refl refl refl e
   where
-    by : (t u v : Bool) → eqb b (byte ".") ≡ t → ltb 0 (length (digits l)) ≡ u → eqb (length (afterDigits l)) 0 ≡ v
-        → cond {A = Option (List ℕ)} (t && (u && v)) (some (digits l)) none ≡ some es → Behind (b ∷ l) es
+    by : (t u v : Bool) → eqb b (byte ".") ≡ t → ltb 0 (length (leadingDigits l)) ≡ u → eqb (length (afterDigits l)) 0 ≡ v
+        → cond {A = Option (List ℕ)} (t && (u && v)) (some (leadingDigits l)) none ≡ some es → Behind (b ∷ l) es
     by true true true p q r e =
-        let h : digits l ≡ es = cc in
+        let h : leadingDigits l ≡ es = cc in
         let z = no-length (afterDigits l) (eqb-true (length (afterDigits l)) 0 r) in
-        let k : digits l ≡ l = sym (append-nil (digits l)) ∙ ap (λ (x : List ℕ). digits l ++ x) (sym z) ∙ together l in
-        let d : Digits (digits l) = record { some = ltb-true 0 (length (digits l)) q; all = all-digits l } in
-        let w : Behind (byte "." ∷ digits l) (digits l) = point d in
+        let k : leadingDigits l ≡ l = sym (append-nil (leadingDigits l)) ∙ ap (λ (x : List ℕ). leadingDigits l ++ x) (sym z) ∙ together l in
+        let d : Digits (leadingDigits l) = record { atLeastOne = ltb-true 0 (length (leadingDigits l)) q; all = all-digits l } in
+        let w : Behind (byte "." ∷ leadingDigits l) (leadingDigits l) = point d in
         subst (λ (x : List ℕ). Behind (b ∷ l) x) h
-        (subst (λ (x : List ℕ). Behind x (digits l)) (ap (λ (x : ℕ). x ∷ digits l) (sym (eqb-true b (byte ".") p)) ∙ ap (λ (x : List ℕ). b ∷ x) k) w)
+        (subst (λ (x : List ℕ). Behind x (leadingDigits l)) (ap (λ (x : ℕ). x ∷ leadingDigits l) (sym (eqb-true b (byte ".") p)) ∙ ap (λ (x : List ℕ). b ∷ x) k) w)
     by true true false p q r e = let y : _≡_ {A = ℕ} 0 1 = cc in absurd (omega arith)
     by true false v p q r e = let y : _≡_ {A = ℕ} 0 1 = cc in absurd (omega arith)
     by false u v p q r e = let y : _≡_ {A = ℕ} 0 1 = cc in absurd (omega arith)
 
 -- what the definition takes is a plain decimal
 pub plain-says : (lim : Limits) (t : List ℕ) {d : Decimal} → plain lim t ≡ some d → Plain lim t d
-plain-says lim t {d} e = by (ltb 0 (length (digits t))) (fraction (afterDigits t)) refl refl e
+plain-says lim t {d} e = by (ltb 0 (length (leadingDigits t))) (fraction (afterDigits t)) refl refl e
   where
-    joined : {m es : List ℕ} → afterDigits t ≡ m → Behind m es → 0 < length (digits t) → Fit lim (length (digits t)) (length es)
-        → Plain lim t (unsigned (valueFrom (valueFrom 0 (digits t)) es) (length es))
+    joined : {m es : List ℕ} → afterDigits t ≡ m → Behind m es → 0 < length (leadingDigits t) → Fit lim (length (leadingDigits t)) (length es)
+        → Plain lim t (withoutSign (valueFrom (valueFrom 0 (leadingDigits t)) es) (length es))
     joined g end z f =
-        let k : digits t ≡ t = sym (append-nil (digits t)) ∙ ap (λ (x : List ℕ). digits t ++ x) (sym g) ∙ together t in
-        subst (λ (x : List ℕ). Plain lim x (unsigned (valueFrom 0 (digits t)) 0)) k
-        (whole (record { some = z; all = all-digits t }) (f .before) (omega (arith, f .all)))
+        let k : leadingDigits t ≡ t = sym (append-nil (leadingDigits t)) ∙ ap (λ (x : List ℕ). leadingDigits t ++ x) (sym g) ∙ together t in
+        subst (λ (x : List ℕ). Plain lim x (withoutSign (valueFrom 0 (leadingDigits t)) 0)) k
+        (unpointed (record { atLeastOne = z; all = all-digits t }) (f .before) (omega (arith, f .all)))
     joined {es = es} g (point p) z f =
-        let k : digits t ++ (byte "." ∷ es) ≡ t = ap (λ (x : List ℕ). digits t ++ x) (sym g) ∙ together t in
-        let w : Plain lim (digits t ++ (byte "." ∷ es)) (unsigned (valueFrom 0 (digits t ++ es)) (length es)) = pointed (record { some = z; all = all-digits t }) p (f .before) (f .after) (f .all) in
-        subst (λ (x : List ℕ). Plain lim x (unsigned (valueFrom (valueFrom 0 (digits t)) es) (length es))) k
-        (subst (λ (n : ℕ). Plain lim (digits t ++ (byte "." ∷ es)) (unsigned n (length es))) (value-append 0 (digits t) es) w)
+        let k : leadingDigits t ++ (byte "." ∷ es) ≡ t = ap (λ (x : List ℕ). leadingDigits t ++ x) (sym g) ∙ together t in
+        let w : Plain lim (leadingDigits t ++ (byte "." ∷ es)) (withoutSign (valueFrom 0 (leadingDigits t ++ es)) (length es)) = pointed (record { atLeastOne = z; all = all-digits t }) p (f .before) (f .after) (f .all) in
+        subst (λ (x : List ℕ). Plain lim x (withoutSign (valueFrom (valueFrom 0 (leadingDigits t)) es) (length es))) k
+        (subst (λ (n : ℕ). Plain lim (leadingDigits t ++ (byte "." ∷ es)) (withoutSign n (length es))) (value-append 0 (leadingDigits t) es) w)
 
-    within-limits : (es : List ℕ) (u : Bool) → fits lim (length (digits t)) (length es) ≡ u → 0 < length (digits t) → Behind (afterDigits t) es
-        → cond {A = Option Decimal} u (some (unsigned (valueFrom (valueFrom 0 (digits t)) es) (length es))) none ≡ some d → Plain lim t d
+    within-limits : (es : List ℕ) (u : Bool) → inLimits lim (length (leadingDigits t)) (length es) ≡ u → 0 < length (leadingDigits t) → Behind (afterDigits t) es
+        → cond {A = Option Decimal} u (some (withoutSign (valueFrom (valueFrom 0 (leadingDigits t)) es) (length es))) none ≡ some d → Plain lim t d
     within-limits es true f z g e =
-        let h : unsigned (valueFrom (valueFrom 0 (digits t)) es) (length es) ≡ d = cc in
-        subst (λ (x : Decimal). Plain lim t x) h (joined refl g z (fitting lim (length (digits t)) (length es) f))
+        let h : withoutSign (valueFrom (valueFrom 0 (leadingDigits t)) es) (length es) ≡ d = cc in
+        subst (λ (x : Decimal). Plain lim t x) h (joined refl g z (fitting lim (length (leadingDigits t)) (length es) f))
     within-limits es false f z g e = let y : _≡_ {A = ℕ} 0 1 = cc in absurd (omega arith)
 
-    by : (u : Bool) (f : Option (List ℕ)) → ltb 0 (length (digits t)) ≡ u → fraction (afterDigits t) ≡ f
-        → cond u (within lim (digits t) f) none ≡ some d → Plain lim t d
+    by : (u : Bool) (f : Option (List ℕ)) → ltb 0 (length (leadingDigits t)) ≡ u → fraction (afterDigits t) ≡ f
+        → cond u (within lim (leadingDigits t) f) none ≡ some d → Plain lim t d
     by true none g h e = let y : _≡_ {A = ℕ} 0 1 = cc in absurd (omega arith)
-    by true (some es) g h e = within-limits es (fits lim (length (digits t)) (length es)) refl (ltb-true 0 (length (digits t)) g) (behind (afterDigits t) h) e
+    by true (some es) g h e = within-limits es (inLimits lim (length (leadingDigits t)) (length es)) refl (ltb-true 0 (length (leadingDigits t)) g) (behind (afterDigits t) h) e
     by false f g h e = let y : _≡_ {A = ℕ} 0 1 = cc in absurd (omega arith)
 
 -- a plain decimal is what the definition takes
 module _ (lim : Limits) where
-  taken : (t ds m es : List ℕ) → digits t ≡ ds → afterDigits t ≡ m → fraction m ≡ some es → 0 < length ds → fits lim (length ds) (length es) ≡ true
-      → plain lim t ≡ some (unsigned (valueFrom (valueFrom 0 ds) es) (length es))
+  taken : (t ds m es : List ℕ) → leadingDigits t ≡ ds → afterDigits t ≡ m → fraction m ≡ some es → 0 < length ds → inLimits lim (length ds) (length es) ≡ true
+      → plain lim t ≡ some (withoutSign (valueFrom (valueFrom 0 ds) es) (length es))
   taken t ds m es e f g z h =
       ap (λ (x : List ℕ). cond (ltb 0 (length x)) (within lim x (fraction (afterDigits t))) none) e
       ∙ ap (λ (x : List ℕ). cond (ltb 0 (length ds)) (within lim ds (fraction x)) none) f
       ∙ ap (λ (x : Option (List ℕ)). cond (ltb 0 (length ds)) (within lim ds x) none) g
       ∙ ap (λ (u : Bool). cond u (within lim ds (some es)) none) (lt-ltb 0 (length ds) z)
-      ∙ ap (λ (u : Bool). cond u (some (unsigned (valueFrom (valueFrom 0 ds) es) (length es))) none) h
+      ∙ ap (λ (u : Bool). cond u (some (withoutSign (valueFrom (valueFrom 0 ds) es) (length es))) none) h
 
   pub says-plain : {t : List ℕ} {d : Decimal} → Plain lim t d → plain lim t ≡ some d
-  says-plain (whole {ds} p h k) =
-      taken ds ds [] [] (alone (p .all)) (nothing-after (p .all)) refl (p .some) (fit lim (length ds) 0 h (omega arith) (omega arith))
+  says-plain (unpointed {ds} p h k) =
+      taken ds ds [] [] (alone (p .all)) (nothing-after (p .all)) refl (p .atLeastOne) (fit lim (length ds) 0 h (omega arith) (omega arith))
   says-plain (pointed {ds} {es} p q h k j) =
-      let digit-run : onlyDigits es ≡ true = ap (λ (x : List ℕ). ltb 0 (length x) && eqb (length (afterDigits es)) 0) (alone (q .all)) ∙ ap (λ (x : List ℕ). ltb 0 (length es) && eqb (length x) 0) (nothing-after (q .all)) ∙ ap (λ (u : Bool). u && true) (lt-ltb 0 (length es) (q .some)) in
-      let part : fraction (byte "." ∷ es) ≡ some es = ap (λ (u : Bool). cond u (some (digits es)) none) digit-run ∙ ap (λ (x : List ℕ). some x) (alone (q .all)) in
-      taken (ds ++ (byte "." ∷ es)) ds (byte "." ∷ es) es (front (byte "." ∷ es) (p .all) refl) (back (byte "." ∷ es) (p .all) refl) part (p .some) (fit lim (length ds) (length es) h k j)
-      ∙ ap (λ (n : ℕ). some (unsigned n (length es))) (sym (value-append 0 ds es))
+      let digit-run : onlyDigits es ≡ true = ap (λ (x : List ℕ). ltb 0 (length x) && eqb (length (afterDigits es)) 0) (alone (q .all)) ∙ ap (λ (x : List ℕ). ltb 0 (length es) && eqb (length x) 0) (nothing-after (q .all)) ∙ ap (λ (u : Bool). u && true) (lt-ltb 0 (length es) (q .atLeastOne)) in
+      let part : fraction (byte "." ∷ es) ≡ some es = ap (λ (u : Bool). cond u (some (leadingDigits es)) none) digit-run ∙ ap (λ (x : List ℕ). some x) (alone (q .all)) in
+      taken (ds ++ (byte "." ∷ es)) ds (byte "." ∷ es) es (front (byte "." ∷ es) (p .all) refl) (back (byte "." ∷ es) (p .all) refl) part (p .atLeastOne) (fit lim (length ds) (length es) h k j)
+      ∙ ap (λ (n : ℕ). some (withoutSign n (length es))) (sym (value-append 0 ds es))
 
 -- what stands at a place is a text, and no plain decimal within the limits
 pub record NoDecimal (lim : Limits) (t : List ℕ) : Type 0 where
@@ -138,10 +138,10 @@ pub record NoDecimal (lim : Limits) (t : List ℕ) : Type 0 where
 
 module _ (lim : Limits) (l : List ℕ) where
   abbrev by-text : Bool → Parse (Option Decimal)
-  by-text t = cond t (got none (past l)) (orNumber (plain lim (text l)) (past l))
+  by-text t = cond t (got none (fromComma l)) (orNumber (plain lim (text l)) (fromComma l))
 
   abbrev by-plain : Option Decimal → Parse (Option Decimal)
-  by-plain o = orNumber o (past l)
+  by-plain o = orNumber o (fromComma l)
 
   standing : 0 < length (text l) → decimal lim l ≡ by-plain (plain lim (text l))
   unfolding decimal
@@ -175,25 +175,25 @@ module _ (lim : Limits) (l : List ℕ) where
           some-length (b ∷ t) g = omega arith
 
   -- a decimal where a plain one stands, and what is left begins at the comma
-  pub decimal-where : {d : Decimal} → Plain lim (text l) d → decimal lim l ≡ got (some d) (past l)
+  pub decimal-where : {d : Decimal} → Plain lim (text l) d → decimal lim l ≡ got (some d) (fromComma l)
   decimal-where p = standing (length-of p) ∙ ap by-plain (says-plain lim p)
     where
       length-of : {t : List ℕ} {d : Decimal} → Plain lim t d → 0 < length t
-      length-of (whole q h k) = q .some
-      length-of (pointed {ds} {es} q r h k j) = omega (arith, length-append ds (byte "." ∷ es), q .some)
+      length-of (unpointed q h k) = q .atLeastOne
+      length-of (pointed {ds} {es} q r h k j) = omega (arith, length-append ds (byte "." ∷ es), q .atLeastOne)
 
   -- a decimal only there
-  pub decimal-only : {d : Decimal} {m : List ℕ} → decimal lim l ≡ got (some d) m → Plain lim (text l) d × (m ≡ past l)
+  pub decimal-only : {d : Decimal} {m : List ℕ} → decimal lim l ≡ got (some d) m → Plain lim (text l) d × (m ≡ fromComma l)
   unfolding decimal
   decimal-only {d} {m} e = by (eqb (length (text l)) 0) e
     where
-      plainly : (o : Option Decimal) → plain lim (text l) ≡ o → by-plain o ≡ got (some d) m → Plain lim (text l) d × (m ≡ past l)
+      plainly : (o : Option Decimal) → plain lim (text l) ≡ o → by-plain o ≡ got (some d) m → Plain lim (text l) d × (m ≡ fromComma l)
       plainly none f e = let y : _≡_ {A = ℕ} 0 1 = cc in absurd (omega arith)
       plainly (some d′) f e =
           let h : d′ ≡ d = cc in
-          let k : m ≡ past l = cc in
+          let k : m ≡ fromComma l = cc in
           (plain-says lim (text l) (f ∙ ap (λ (x : Decimal). some x) h), k)
 
-      by : (t : Bool) → by-text t ≡ got (some d) m → Plain lim (text l) d × (m ≡ past l)
+      by : (t : Bool) → by-text t ≡ got (some d) m → Plain lim (text l) d × (m ≡ fromComma l)
       by true e = let y : _≡_ {A = ℕ} 0 1 = cc in absurd (omega arith)
       by false e = plainly (plain lim (text l)) refl e

@@ -5,13 +5,13 @@ use native.Mathlib.Omega.{arith}
 use mathlib.Core.Path.{_≡_, refl, ap, sym, subst}
 use mathlib.Core.Bool.{Bool}
 use mathlib.Core.List.{List}
-use mathlib.Core.Option.{Option, none, some}
+use mathlib.Core.Option.{Option, none, some, Option·map}
 use lib.IntN.{natAbs}
 use Rattle.text.specs.Reader.{Parse, miss, refuse, got, after, _>>=_, pure}
 use Rattle.text.specs.Placed.{Reads}
 use Rattle.text.proofs.Places.{took}
 use Rattle.decimal.specs.Decimal.{Limits, Decimal, decimal, short, long}
-use Rattle.decimal.specs.Places.{Short, Long, shortOf, longOf, map, signed, shortDecimal, longDecimal}
+use Rattle.decimal.specs.Places.{Short, Long, shortOf, longOf, signed, shortDecimal, longDecimal}
 use Rattle.decimal.specs.Answer.{shortAt, aShort, longAt, aLong}
 use Rattle.decimal.specs.declared.ShortDecimal.{ShortDecimal}
 use Rattle.decimal.specs.declared.ShortAt.{ShortAt}
@@ -29,11 +29,11 @@ record From {A : Type 0} (lim : Limits) (f : Decimal → A) (a : A) : Type 0 whe
   known : Bounded lim of
 
 from : {A : Type 0} (lim : Limits) (f : Decimal → A) (l : List ℕ) {a : A} {m : List ℕ}
-    → (decimal lim >>= (λ d. pure (map f d))) l ≡ got (some a) m → From lim f a
+    → (decimal lim >>= (λ d. pure (Option·map f d))) l ≡ got (some a) m → From lim f a
 unfolding _>>=_ pure
 from {A} lim f l {a} {m} e = by (decimal lim l) refl e
   where
-    by : (r : Parse (Option Decimal)) → decimal lim l ≡ r → after r (λ d. pure (map f d)) ≡ got (some a) m → From lim f a
+    by : (r : Parse (Option Decimal)) → decimal lim l ≡ r → after r (λ d. pure (Option·map f d)) ≡ got (some a) m → From lim f a
     by miss g e = let y : _≡_ {A = ℕ} 0 1 = cc in absurd (omega arith)
     by (refuse x) g e = let y : _≡_ {A = ℕ} 0 1 = cc in absurd (omega arith)
     by (got none k) g e = let y : _≡_ {A = ℕ} 0 1 = cc in absurd (omega arith)

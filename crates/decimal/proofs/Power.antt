@@ -36,9 +36,6 @@ minutes-lt w k h l =
     let r : 10 ^ k * 10 ^ (9 - k) ≡ 1000000000 = parts k 9 l in
     omega arith
 
-pub whole-lt : (w k : ℕ) → w < 1000 * 10 ^ k → k ≤ 9 → w < 1000000000000
-whole-lt w k h l = omega (arith, under k 9 l)
-
 -- the power that pow10 answers, for an exponent up to the ninth
 pub capped : {p : ℕ} (k : ℕ) → k ≤ 9 → p ≡ 10 ^ min k 9 → p ≡ 10 ^ k
 capped k h e = let m : min k 9 ≡ k = omega arith in e ∙ ap (λ (j : ℕ). 10 ^ j) m

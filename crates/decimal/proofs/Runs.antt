@@ -10,7 +10,7 @@ use lib.ListN.{length, drop, getD}
 use lib.Dec.{leb, lit<}
 use borrow.Author.Tests.{le-leb, lt-leb}
 use Rattle.text.specs.Reader.{Parse, refuse, got, Number}
-use Rattle.text.specs.Number.{isDigit, digits, afterDigits, valueFrom}
+use Rattle.text.specs.Number.{isDigit, leadingDigits, afterDigits, valueFrom}
 use Rattle.text.proofs.Places.{here, ended}
 use Rattle.text.specs.Units.{unit}
 use Rattle.decimal.specs.Run.{Run, run}
@@ -23,8 +23,8 @@ ended-at most v l k = cond (leb k most) (got (record { value = v; count = k }) l
 run-cons : (most v n b : ℕ) (l : List ℕ) → isDigit b ≡ true → run most v n (b ∷ l) ≡ run most (v * 10 + (b - 48)) (n + 1) l
 unfolding run
 run-cons most v n b l e =
-    let z : n + length (b ∷ digits l) ≡ n + 1 + length (digits l) = omega arith in
-    rw e (ap (ended-at most (valueFrom (v * 10 + (b - 48)) (digits l)) (afterDigits l)) z)
+    let z : n + length (b ∷ leadingDigits l) ≡ n + 1 + length (leadingDigits l) = omega arith in
+    rw e (ap (ended-at most (valueFrom (v * 10 + (b - 48)) (leadingDigits l)) (afterDigits l)) z)
 
 run-none : (most v n b : ℕ) (l : List ℕ) → isDigit b ≡ false → n ≤ most → run most v n (b ∷ l) ≡ got (record { value = v; count = n }) (b ∷ l)
 unfolding run
@@ -41,7 +41,7 @@ run-nil most v n h =
 run-full : (most v n b : ℕ) (l : List ℕ) → isDigit b ≡ true → n ≡ most → run most v n (b ∷ l) ≡ refuse Number
 unfolding run
 run-full most v n b l e h =
-    let z : most < n + length (b ∷ digits l) = omega arith in
+    let z : most < n + length (b ∷ leadingDigits l) = omega arith in
     rw (e, lt-leb _ _ z)
 
 module _ (most v n : ℕ) (s : List ℕ) (i : ℕ) where

@@ -1,9 +1,8 @@
 -- What each answer of the code says.
-use Prim.Native.Nat.{ℕ}
 use mathlib.Core.Option.{Option, none, some}
 use Rattle.text.specs.Reader.{Number}
 use Rattle.text.specs.Placed.{Placed, refused, upto}
-use Rattle.decimal.specs.Decimal.{Decimal, unsigned}
+use Rattle.decimal.specs.Decimal.{Decimal, withoutSign}
 use Rattle.decimal.specs.Run.{Run}
 use Rattle.decimal.specs.Places.{Short, Long}
 use Rattle.decimal.specs.declared.Ran.{Ran}
@@ -24,7 +23,7 @@ ran (ARun v n p) = upto (record { value = v; count = n }) p
 abbrev pub found : Found → Placed (Option Decimal)
 found NotDecimal = refused Number
 found (NoDecimal p) = upto none p
-found (ADecimal n k p) = upto (some (unsigned n k)) p
+found (ADecimal n k p) = upto (some (withoutSign n k)) p
 
 abbrev pub aShort : ShortDecimal → Short
 aShort d = record { whole = d .whole; decimals = d .decimals; value = d .value }

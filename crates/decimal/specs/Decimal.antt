@@ -8,7 +8,7 @@ use lib.ListN.{length}
 use lib.Dec.{eqb, leb, ltb}
 use Rattle.text.specs.Bytes.{byte}
 use Rattle.text.specs.Reader.{Parse, refuse, got, Reader, Number}
-use Rattle.text.specs.Number.{digits, afterDigits, valueFrom, onlyDigits}
+use Rattle.text.specs.Number.{leadingDigits, afterDigits, valueFrom, onlyDigits}
 
 -- the most digits in all, before the point and after it
 pub record Limits : Type 0 where
@@ -33,35 +33,35 @@ pub record Decimal : Type 0 where
   pub size : ℕ
   pub decimals : ℕ
 
-abbrev pub unsigned : ℕ → ℕ → Decimal
-unsigned n k = record { minus = false; size = n; decimals = k }
+abbrev pub withoutSign : ℕ → ℕ → Decimal
+withoutSign n k = record { minus = false; size = n; decimals = k }
 
 -- the text up to the next comma or the end, and what is left
 abbrev pub text : List ℕ → List ℕ
 text [] = []
 text (b ∷ l) = cond (eqb b (byte ",")) [] (b ∷ text l)
 
-abbrev pub past : List ℕ → List ℕ
-past [] = []
-past (b ∷ l) = cond (eqb b (byte ",")) (b ∷ l) (past l)
+abbrev pub fromComma : List ℕ → List ℕ
+fromComma [] = []
+fromComma (b ∷ l) = cond (eqb b (byte ",")) (b ∷ l) (fromComma l)
 
 -- the digits after the point, where nothing or a point and one or more digits stand there
 abbrev pub fraction : List ℕ → Option (List ℕ)
 fraction [] = some []
-fraction (b ∷ l) = cond (eqb b (byte ".") && onlyDigits l) (some (digits l)) none
+fraction (b ∷ l) = cond (eqb b (byte ".") && onlyDigits l) (some (leadingDigits l)) none
 
-abbrev pub fits : Limits → ℕ → ℕ → Bool
-fits lim m n = leb m (lim .before) && leb n (lim .after) && leb (m + n) (lim .all)
+abbrev pub inLimits : Limits → ℕ → ℕ → Bool
+inLimits lim m n = leb m (lim .before) && leb n (lim .after) && leb (m + n) (lim .all)
 
 abbrev pub within : Limits → List ℕ → Option (List ℕ) → Option Decimal
 within lim ds none = none
 within lim ds (some es) =
-    cond (fits lim (length ds) (length es)) (some (unsigned (valueFrom (valueFrom 0 ds) es) (length es))) none
+    cond (inLimits lim (length ds) (length es)) (some (withoutSign (valueFrom (valueFrom 0 ds) es) (length es))) none
 
 -- one or more digits, optionally a point and one or more digits, within the limits: `Plain` says it in words, and
 -- proofs/Exactly shows that the two are one
 abbrev pub plain : Limits → List ℕ → Option Decimal
-plain lim t = cond (ltb 0 (length (digits t))) (within lim (digits t) (fraction (afterDigits t))) none
+plain lim t = cond (ltb 0 (length (leadingDigits t))) (within lim (leadingDigits t) (fraction (afterDigits t))) none
 
 abbrev pub orNumber : Option Decimal → List ℕ → Parse (Option Decimal)
 orNumber none l = refuse Number
@@ -69,4 +69,4 @@ orNumber (some d) l = got (some d) l
 
 -- a decimal place: absent where the text is empty, the refusal Number where it is no plain decimal within the limits
 unfoldable pub decimal : Limits → Reader (Option Decimal)
-decimal lim l = cond (eqb (length (text l)) 0) (got none (past l)) (orNumber (plain lim (text l)) (past l))
+decimal lim l = cond (eqb (length (text l)) 0) (got none (fromComma l)) (orNumber (plain lim (text l)) (fromComma l))

@@ -1,10 +1,10 @@
 -- Short and long decimals: the exact number, and the float nearest to it.
 use Prim.Native.Nat.{ℕ, _*_, _-_, _^_}
 use mathlib.Core.Bool.{Bool, cond}
-use mathlib.Core.Option.{Option, none, some}
+use mathlib.Core.Option.{Option, Option·map}
 use lib.IntN.{ℤ, pos, negℤ}
 use lib.Ieee.{Float, Format, binary32, binary64, round}
-use Rattle.text.specs.Reader.{Reader, _>>=_, pure}
+use Rattle.text.specs.Reader.{Reader, pure, _>>=_}
 use Rattle.decimal.specs.Decimal.{Decimal, decimal, short, long}
 
 -- `n`, negative where `minus` says so
@@ -12,8 +12,8 @@ abbrev pub signed : ℕ → Bool → ℤ
 signed n minus = cond minus (negℤ (pos n)) (pos n)
 
 -- the value of the format nearest to the decimal: its digits divided once by the power of ten. Minus zero is not zero
-abbrev pub nearest : Format → Decimal → Float
-nearest f d = round f (d .minus) (d .size) (10 ^ d .decimals)
+abbrev pub floatOf : Format → Decimal → Float
+floatOf f d = round f (d .minus) (d .size) (10 ^ d .decimals)
 
 -- a short decimal: its digits as a whole number, its count of decimals, and the f32
 pub record Short : Type 0 where
@@ -22,7 +22,7 @@ pub record Short : Type 0 where
   pub value : Float
 
 abbrev pub shortOf : Decimal → Short
-shortOf d = record { whole = signed (d .size) (d .minus); decimals = d .decimals; value = nearest binary32 d }
+shortOf d = record { whole = signed (d .size) (d .minus); decimals = d .decimals; value = floatOf binary32 d }
 
 -- a long decimal: its digits, its count of decimals, the same in billionths, and the f64
 pub record Long : Type 0 where
@@ -33,18 +33,14 @@ pub record Long : Type 0 where
 
 abbrev pub longOf : Decimal → Long
 longOf d =
-    record { size = d .size; decimals = d .decimals; billionths = d .size * 10 ^ (9 - d .decimals); value = nearest binary64 d }
-
-abbrev pub map : {A B : Type 0} → (A → B) → Option A → Option B
-map f none = none
-map f (some a) = some (f a)
+    record { size = d .size; decimals = d .decimals; billionths = d .size * 10 ^ (9 - d .decimals); value = floatOf binary64 d }
 
 unfoldable pub shortDecimal : Reader (Option Short)
 shortDecimal = do
   d ← decimal short
-  pure (map shortOf d)
+  pure (Option·map shortOf d)
 
 unfoldable pub longDecimal : Reader (Option Long)
 longDecimal = do
   d ← decimal long
-  pure (map longOf d)
+  pure (Option·map longOf d)

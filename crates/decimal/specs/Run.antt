@@ -6,7 +6,7 @@ use lib.ListN.{length}
 use lib.Dec.{eqb, leb}
 use Rattle.text.specs.Bytes.{byte}
 use Rattle.text.specs.Reader.{refuse, got, Reader, Number}
-use Rattle.text.specs.Number.{digits, afterDigits, valueFrom}
+use Rattle.text.specs.Number.{leadingDigits, afterDigits, valueFrom}
 
 pub record Run : Type 0 where
   pub value : ℕ
@@ -15,8 +15,8 @@ pub record Run : Type 0 where
 -- the digits that a text begins with, going on from `value` and `count` digits, at most `most`
 unfoldable pub run : ℕ → ℕ → ℕ → Reader Run
 run most value count l =
-    cond (leb (count + length (digits l)) most)
-    (got (record { value = valueFrom value (digits l); count = count + length (digits l) }) (afterDigits l))
+    cond (leb (count + length (leadingDigits l)) most)
+    (got (record { value = valueFrom value (leadingDigits l); count = count + length (leadingDigits l) }) (afterDigits l))
     (refuse Number)
 
 -- a comma or the end

@@ -1,11 +1,9 @@
 -- What each answer of the code says.
-use Prim.Native.Nat.{ℕ}
 use mathlib.Core.Option.{Option, none, some}
 use Rattle.text.specs.Reader.{Number, BadTime}
 use Rattle.text.specs.Placed.{Placed, unread, refused, upto}
 use Rattle.decimal.specs.Places.{Short}
 use Rattle.decimal.specs.Answer.{aShort}
-use Rattle.decimal.specs.declared.ShortDecimal.{ShortDecimal}
 use Rattle.fields.specs.Time.{Time}
 use Rattle.fields.specs.Date.{Date}
 use Rattle.fields.specs.Position.{Position, LatLon}

@@ -3,8 +3,8 @@ use Prim.Native.Nat.{ℕ, _+_, _%_}
 use mathlib.Core.Bool.{Bool, cond, _&&_, _||_}
 use mathlib.Core.Option.{Option, none, some}
 use lib.Dec.{eqb, leb}
-use Rattle.text.specs.Reader.{Reader, _>>=_, opt, orMiss}
-use Rattle.text.specs.Number.{two}
+use Rattle.text.specs.Reader.{Reader, opt, orMiss, _>>=_}
+use Rattle.text.specs.Number.{twoBytes}
 
 pub record Date : Type 0 where
   pub year : ℕ
@@ -34,9 +34,9 @@ dateOf d m y =
 -- parse_date: day first
 unfoldable pub date : Reader Date
 date = do
-  day ← two
-  month ← two
-  year ← two
+  day ← twoBytes
+  month ← twoBytes
+  year ← twoBytes
   orMiss (dateOf day month (fullYear year))
 
 -- opt(parse_date)

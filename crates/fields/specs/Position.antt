@@ -7,7 +7,7 @@ use lib.Dec.{eqb}
 use lib.Ieee.{Float, binary64, add, div, neg, ofInt}
 use Rattle.text.specs.Bytes.{byte}
 use Rattle.text.specs.Reader.{Reader, _>>=_, _>>_, pure, char, oneOf, alt, orMiss}
-use Rattle.text.specs.Number.{two, three}
+use Rattle.text.specs.Number.{twoBytes, threeBytes}
 use Rattle.decimal.specs.Places.{Long, longDecimal, signed}
 
 -- a signed count of billionths of a minute, its letter, and the f64 in degrees
@@ -39,10 +39,10 @@ side plus minus deg = do
   pure (positionOf deg m letter (eqb letter minus))
 
 unfoldable pub latitude : Reader Position
-latitude = two >>= side (byte "N") (byte "S")
+latitude = twoBytes >>= side (byte "N") (byte "S")
 
 unfoldable pub longitude : Reader Position
-longitude = three >>= side (byte "E") (byte "W")
+longitude = threeBytes >>= side (byte "E") (byte "W")
 
 pub record LatLon : Type 0 where
   pub lat : Position

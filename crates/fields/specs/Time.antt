@@ -2,11 +2,11 @@
 -- else Syntax. Then 11."
 use Prim.Native.Nat.{ℕ, _*_, _-_, _/_, _%_, _^_}
 use mathlib.Core.Bool.{cond, _&&_}
-use mathlib.Core.Option.{Option, none, some}
+use mathlib.Core.Option.{Option}
 use lib.Dec.{ltb}
-use Rattle.text.specs.Reader.{miss, refuse, got, Reader, _>>=_, opt, orMiss, BadTime}
-use Rattle.text.specs.Number.{two}
-use Rattle.decimal.specs.Places.{Long, longDecimal}
+use Rattle.text.specs.Reader.{miss, refuse, got, Reader, opt, orMiss, BadTime, _>>=_}
+use Rattle.text.specs.Number.{twoBytes}
+use Rattle.decimal.specs.Places.{longDecimal}
 
 pub record Time : Type 0 where
   pub hour : ℕ
@@ -35,8 +35,8 @@ clock h m size k l =
 -- parse_hms
 unfoldable pub hms : Reader Time
 hms = do
-  hour ← two
-  minute ← two
+  hour ← twoBytes
+  minute ← twoBytes
   seconds ← longDecimal
   d ← orMiss seconds
   clock hour minute (d .size) (d .decimals)

@@ -1,5 +1,4 @@
 -- The magnetic variation.
-use Prim.Native.Nat.{ℕ}
 use mathlib.Core.Bool.{Bool, cond}
 use mathlib.Core.Option.{Option, none, some}
 use lib.IntN.{negℤ}

@@ -8,12 +8,12 @@ use mathlib.Core.List.{List, [], _∷_}
 use mathlib.Core.Option.{Option, none, some}
 use lib.ListN.{length, drop, getD, length-drop}
 use Rattle.text.specs.Bytes.{byte}
-use Rattle.text.specs.Reader.{UnknownType, miss, refuse, got, _>>=_, char, orMiss}
-use Rattle.frame.specs.Types.{types, among}
+use Rattle.text.specs.Reader.{UnknownType, miss, refuse, got, char, orMiss}
+use Rattle.frame.specs.Types.{types, listed}
 use Rattle.frame.specs.Digits.{digit, leadDigit, sixteens, hex, orSixteen}
 use Rattle.frame.specs.Frame.{taken, known, sentenceType, checksumField}
 use Rattle.frame.proofs.Units.{digit-low, lead-low}
-use Rattle.frame.proofs.Binds.{bind-miss, bind-got, char-here, char-other, miss-after}
+use Rattle.text.proofs.Binds.{bind-miss, bind-got, char-here, char-other, miss-after}
 use Rattle.frame.proofs.Taken.{two-of, three-of, next-three, taken-short}
 
 -- a digit as the code has it
@@ -89,11 +89,11 @@ unfolding sentenceType
 type-of a b c l = bind-got (taken 3) _ _ (three-of a b c l)
 
 module _ (a b c : ℕ) (l : List ℕ) where
-  pub type-known : among types (a ∷ b ∷ c ∷ []) ≡ true → sentenceType (a ∷ b ∷ c ∷ l) ≡ got (a ∷ b ∷ c ∷ []) l
+  pub type-known : listed types (a ∷ b ∷ c ∷ []) ≡ true → sentenceType (a ∷ b ∷ c ∷ l) ≡ got (a ∷ b ∷ c ∷ []) l
   unfolding known
   type-known e = type-of a b c l ∙ rw e
 
-  pub type-unknown : among types (a ∷ b ∷ c ∷ []) ≡ false → sentenceType (a ∷ b ∷ c ∷ l) ≡ refuse UnknownType
+  pub type-unknown : listed types (a ∷ b ∷ c ∷ []) ≡ false → sentenceType (a ∷ b ∷ c ∷ l) ≡ refuse UnknownType
   unfolding known
   type-unknown e = type-of a b c l ∙ rw e
 
@@ -103,9 +103,9 @@ module _ (s : List ℕ) (at : ℕ) where
   short-type h = bind-miss (taken 3) _ _ (taken-short s at 3 h)
 
   module _ (h : 3 + at ≤ length s) where
-    pub known-type : among types (getD s at 0 ∷ getD s (at + 1) 0 ∷ getD s (at + 2) 0 ∷ []) ≡ true
+    pub known-type : listed types (getD s at 0 ∷ getD s (at + 1) 0 ∷ getD s (at + 2) 0 ∷ []) ≡ true
         → sentenceType (drop at s) ≡ got (getD s at 0 ∷ getD s (at + 1) 0 ∷ getD s (at + 2) 0 ∷ []) (drop (at + 3) s)
     known-type e = ap sentenceType (next-three s at h) ∙ type-known _ _ _ _ e
 
-    pub unknown-type : among types (getD s at 0 ∷ getD s (at + 1) 0 ∷ getD s (at + 2) 0 ∷ []) ≡ false → sentenceType (drop at s) ≡ refuse UnknownType
+    pub unknown-type : listed types (getD s at 0 ∷ getD s (at + 1) 0 ∷ getD s (at + 2) 0 ∷ []) ≡ false → sentenceType (drop at s) ≡ refuse UnknownType
     unknown-type e = ap sentenceType (next-three s at h) ∙ type-unknown _ _ _ _ e

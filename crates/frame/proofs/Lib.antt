@@ -4,7 +4,6 @@ pub mod Sums
 pub mod Xor
 pub mod Units
 pub mod Taken
-pub mod Binds
 pub mod Fields
 pub mod Steps
 pub mod Until

@@ -15,7 +15,7 @@ use Rattle.utf8.specs.Utf8.{utf8, ascii}
 use Rattle.text.specs.Bytes.{byte}
 use Rattle.text.specs.Reader.{Parse, miss, refuse, got}
 use Rattle.frame.specs.Refused.{Refused, badUtf8, notAscii, tooLong, syntaxError, unknownType, badChecksum}
-use Rattle.frame.specs.Types.{types, among}
+use Rattle.frame.specs.Types.{types, listed}
 use Rattle.frame.specs.Checksum.{checksum}
 use Rattle.frame.specs.Digits.{hex}
 use Rattle.frame.specs.Frame.{maxLength, Parts, Outcome, accepted, refused, sentence, calculated, judged, sized, frame, dataFrom}
@@ -71,12 +71,12 @@ caught-before l h k = by (utf8 l) (ascii l)
 line-caught : (a b c d e : ℕ) (text : List ℕ) {v : ℕ} (y z : ℕ) (m : List ℕ) → Clear (byte "*") text → hex (y ∷ z ∷ []) ≡ some v
     → (checksum (a ∷ b ∷ c ∷ d ∷ e ∷ byte "," ∷ text) ≡ v → ⊥)
     → Caught (judged (sentence (line-of a b c d e text y z m)))
-line-caught a b c d e text {v} y z m clear digits n = by (among types (c ∷ d ∷ e ∷ [])) refl
+line-caught a b c d e text {v} y z m clear digits n = by (listed types (c ∷ d ∷ e ∷ [])) refl
   where
     sum : ℕ
     sum = checksum (a ∷ b ∷ c ∷ d ∷ e ∷ byte "," ∷ text)
 
-    by : (t : Bool) → among types (c ∷ d ∷ e ∷ []) ≡ t → Caught (judged (sentence (line-of a b c d e text y z m)))
+    by : (t : Bool) → listed types (c ∷ d ∷ e ∷ []) ≡ t → Caught (judged (sentence (line-of a b c d e text y z m)))
     by true f =
         record {
           why = badChecksum sum v;
@@ -92,7 +92,7 @@ line-caught a b c d e text {v} y z m clear digits n = by (among types (c ∷ d �
 
 -- a line of the right shape, and the byte `x` in place of another
 module _ (a b c d e : ℕ) (text : List ℕ) {v : ℕ} (y z : ℕ) (m : List ℕ) (x : ℕ)
-    (clear : Clear (byte "*") text) (listed : among types (c ∷ d ∷ e ∷ []) ≡ true) (digits : hex (y ∷ z ∷ []) ≡ some v)
+    (clear : Clear (byte "*") text) (listed : listed types (c ∷ d ∷ e ∷ []) ≡ true) (digits : hex (y ∷ z ∷ []) ≡ some v)
     (sum : checksum (a ∷ b ∷ c ∷ d ∷ e ∷ byte "," ∷ text) ≡ v) (no-star : x ≡ byte "*" → ⊥) where
   abbrev body : List ℕ
   body = a ∷ b ∷ c ∷ d ∷ e ∷ byte "," ∷ text

@@ -12,10 +12,10 @@ use lib.Seq.{slice, take-append-seam}
 use borrow.Author.Tests.{eqb-true}
 use Rattle.text.specs.Bytes.{byte}
 use Rattle.text.specs.Reader.{UnknownType, Parse, miss, refuse, got, Reader, after, _>>=_, char, until, pure, orMiss}
-use Rattle.frame.specs.Types.{types, among}
+use Rattle.frame.specs.Types.{types, listed}
 use Rattle.frame.specs.Digits.{hex}
 use Rattle.frame.specs.Frame.{dataFrom, Parts, taken, known, sentenceType, checksumField, sentence}
-use Rattle.frame.proofs.Binds.{bind-got, bind-refuse, bind-miss, char-here, char-other}
+use Rattle.text.proofs.Binds.{bind-got, bind-refuse, bind-miss, char-here, char-other}
 use Rattle.frame.proofs.Taken.{two-of, three-of}
 use Rattle.frame.proofs.Fields.{field-of, type-known, type-unknown}
 use Rattle.frame.proofs.Until.{Clear, Stopped, stopped, until-back}
@@ -77,15 +77,15 @@ was-three (a ∷ b ∷ c ∷ l) t m e =
 
 record Listed (l t m : List ℕ) : Type 0 where
   letters : Three l t m
-  listed : among types t ≡ true
+  listed : listed types t ≡ true
 
 was-type : (l t m : List ℕ) → sentenceType l ≡ got t m → Listed l t m
 unfolding sentenceType known
 was-type l t m e =
     let k = bound (taken 3) _ l t m e in
-    by (k .one) (k .left) (was-three l (k .one) (k .left) (k .first)) (among types (k .one)) refl (k .second)
+    by (k .one) (k .left) (was-three l (k .one) (k .left) (k .first)) (listed types (k .one)) refl (k .second)
   where
-    by : (u n : List ℕ) → Three l u n → (x : Bool) → among types u ≡ x
+    by : (u n : List ℕ) → Three l u n → (x : Bool) → listed types u ≡ x
         → cond {A = Parse (List ℕ)} x (got u n) (refuse UnknownType) ≡ got t m → Listed l t m
     by u n h true f e =
         let g : u ≡ t = cc in
@@ -134,7 +134,7 @@ pub record Shaped (l : List ℕ) (p : Parts) (m : List ℕ) : Type 0 where
   pub z : ℕ
   pub v : ℕ
   pub clear : Clear (byte "*") text
-  pub listed : among types (c ∷ d ∷ e ∷ []) ≡ true
+  pub listed : listed types (c ∷ d ∷ e ∷ []) ≡ true
   pub digits : hex (y ∷ z ∷ []) ≡ some v
   pub line : l ≡ line-of a b c d e text y z m
   pub parts : p ≡ parts-of a b c d e text v
@@ -194,14 +194,14 @@ between {l} {p} {m} h =
     ∙ ap (λ (q : Parts). q .talker ++ (q .kind ++ (byte "," ∷ q .text))) (sym (h .parts))
 
 -- an unknown type is refused, whatever follows
-pub unknown-line : (a b c d e : ℕ) (l : List ℕ) → among types (c ∷ d ∷ e ∷ []) ≡ false → sentence (byte "$" ∷ a ∷ b ∷ c ∷ d ∷ e ∷ l) ≡ refuse UnknownType
+pub unknown-line : (a b c d e : ℕ) (l : List ℕ) → listed types (c ∷ d ∷ e ∷ []) ≡ false → sentence (byte "$" ∷ a ∷ b ∷ c ∷ d ∷ e ∷ l) ≡ refuse UnknownType
 unfolding sentence
 unknown-line a b c d e l f =
     bind-got (char (byte "$")) _ _ (char-here (byte "$") (a ∷ b ∷ c ∷ d ∷ e ∷ l))
     ∙ bind-got (taken 2) _ _ (two-of a b (c ∷ d ∷ e ∷ l))
     ∙ bind-refuse sentenceType _ _ (type-unknown c d e l f)
 
-module _ (a b c d e : ℕ) (known : among types (c ∷ d ∷ e ∷ []) ≡ true) where
+module _ (a b c d e : ℕ) (known : listed types (c ∷ d ∷ e ∷ []) ≡ true) where
   -- after a known type there is a comma, or no match
   pub no-comma : (x : ℕ) (l : List ℕ) → (x ≡ byte "," → ⊥) → sentence (byte "$" ∷ a ∷ b ∷ c ∷ d ∷ e ∷ x ∷ l) ≡ miss
   unfolding sentence

@@ -14,7 +14,7 @@ use Rattle.text.specs.declared.Next.the-variants.{No as Stop, At}
 use Rattle.text.proofs.Places.{Took, stop, fail, go, took, done-as}
 use Rattle.text.proofs.Steps.{stop-next}
 use Rattle.frame.specs.Frame.{dataFrom}
-use Rattle.frame.specs.Answer.{talkerBytes, letters, field, two, three, parts}
+use Rattle.frame.specs.Answer.{talkerBytes, letters, field, talkerAt, kindAt, parts}
 use Rattle.frame.specs.declared.refusal.Talker.{Talker}
 use Rattle.frame.specs.declared.refusal.Kind.{Kind}
 use Rattle.frame.specs.declared.sentence.Sentence.{Sentence}
@@ -24,7 +24,7 @@ use Rattle.frame.specs.declared.parse.Two.{Two}
 use Rattle.frame.specs.declared.parse.Two.the-variants.{No as NoTwo, Is as AreTwo}
 use Rattle.frame.specs.declared.parse.Three.{Three}
 use Rattle.frame.specs.declared.parse.Three.the-variants.{No as NoThree, Unknown, Is as AreThree}
-use Rattle.frame.proofs.Binds.{char-one}
+use Rattle.text.proofs.Binds.{char-one}
 
 module _ {s : List ℕ} {at : ℕ} where
   next-place : (c : ℕ) {p : ℕ} → Reads s at (char c) (upto tt p) → p ≡ at + 1
@@ -49,22 +49,22 @@ module _ {s : List ℕ} {at : ℕ} where
         → Reads s p (k (slice at p s)) b → Reads s at (q >>= k) b
     go-part k e t u = go k t (ap (part s at) e) u
 
-    pub stop-two : {q : Reader (List ℕ)} (k : List ℕ → Reader B) {r : Two} → r ≡ NoTwo → Reads s at q (two at r) → Reads s at (q >>= k) unread
-    stop-two k e t = stop k t (ap (two at) e)
+    pub stop-two : {q : Reader (List ℕ)} (k : List ℕ → Reader B) {r : Two} → r ≡ NoTwo → Reads s at q (talkerAt at r) → Reads s at (q >>= k) unread
+    stop-two k e t = stop k t (ap (talkerAt at) e)
 
-    pub go-two : {q : Reader (List ℕ)} (k : List ℕ → Reader B) {r : Two} {x : Talker} {b : Placed B} → r ≡ AreTwo x → Reads s at q (two at r)
+    pub go-two : {q : Reader (List ℕ)} (k : List ℕ → Reader B) {r : Two} {x : Talker} {b : Placed B} → r ≡ AreTwo x → Reads s at q (talkerAt at r)
         → Reads s (at + 2) (k (talkerBytes x)) b → Reads s at (q >>= k) b
-    go-two k e t u = go k t (ap (two at) e) u
+    go-two k e t u = go k t (ap (talkerAt at) e) u
 
-    pub stop-three : {q : Reader (List ℕ)} (k : List ℕ → Reader B) {r : Three} → r ≡ NoThree → Reads s at q (three at r) → Reads s at (q >>= k) unread
-    stop-three k e t = stop k t (ap (three at) e)
+    pub stop-three : {q : Reader (List ℕ)} (k : List ℕ → Reader B) {r : Three} → r ≡ NoThree → Reads s at q (kindAt at r) → Reads s at (q >>= k) unread
+    stop-three k e t = stop k t (ap (kindAt at) e)
 
-    pub fail-three : {q : Reader (List ℕ)} (k : List ℕ → Reader B) {r : Three} → r ≡ Unknown → Reads s at q (three at r) → Reads s at (q >>= k) (refused UnknownType)
-    fail-three k e t = fail k t (ap (three at) e)
+    pub fail-three : {q : Reader (List ℕ)} (k : List ℕ → Reader B) {r : Three} → r ≡ Unknown → Reads s at q (kindAt at r) → Reads s at (q >>= k) (refused UnknownType)
+    fail-three k e t = fail k t (ap (kindAt at) e)
 
-    pub go-three : {q : Reader (List ℕ)} (k : List ℕ → Reader B) {r : Three} {x : Kind} {b : Placed B} → r ≡ AreThree x → Reads s at q (three at r)
+    pub go-three : {q : Reader (List ℕ)} (k : List ℕ → Reader B) {r : Three} {x : Kind} {b : Placed B} → r ≡ AreThree x → Reads s at q (kindAt at r)
         → Reads s (at + 3) (k (letters x)) b → Reads s at (q >>= k) b
-    go-three k e t u = go k t (ap (three at) e) u
+    go-three k e t u = go k t (ap (kindAt at) e) u
 
     pub stop-field : {q : Reader ℕ} (k : ℕ → Reader B) {r : Digits} → r ≡ NoDigits → Reads s at q (field at r) → Reads s at (q >>= k) unread
     stop-field k e t = stop k t (ap (field at) e)

@@ -10,21 +10,21 @@ use lib.Dec.{eqb}
 use lib.ListN.{length, drop, getD, drop-of-length-le}
 use lib.Seq.{drop-cons}
 use borrow.Author.Tests.{eq-eqb, ne-eqb, eqb-true}
-use Rattle.frame.specs.Types.{alike, among}
+use Rattle.frame.specs.Types.{alike, listed}
 
 module _ (ts : List (List ℕ)) (k d : List ℕ) (i : ℕ) where
-  here : i < length ts → among (drop i ts) k ≡ (alike k (getD ts i d) || among (drop (i + 1) ts) k)
-  unfolding among
+  here : i < length ts → listed (drop i ts) k ≡ (alike k (getD ts i d) || listed (drop (i + 1) ts) k)
+  unfolding listed
   here h = rw (add-one, drop-cons ts i d h)
 
-  pub found : i < length ts → alike k (getD ts i d) ≡ true → among (drop i ts) k ≡ true
-  found h e = here h ∙ ap (λ (b : Bool). b || among (drop (i + 1) ts) k) e
+  pub found : i < length ts → alike k (getD ts i d) ≡ true → listed (drop i ts) k ≡ true
+  found h e = here h ∙ ap (λ (b : Bool). b || listed (drop (i + 1) ts) k) e
 
-  pub not-here : i < length ts → alike k (getD ts i d) ≡ false → among (drop i ts) k ≡ among (drop (i + 1) ts) k
-  not-here h e = here h ∙ ap (λ (b : Bool). b || among (drop (i + 1) ts) k) e
+  pub not-here : i < length ts → alike k (getD ts i d) ≡ false → listed (drop i ts) k ≡ listed (drop (i + 1) ts) k
+  not-here h e = here h ∙ ap (λ (b : Bool). b || listed (drop (i + 1) ts) k) e
 
-  pub nowhere : length ts ≤ i → among (drop i ts) k ≡ false
-  unfolding among
+  pub nowhere : length ts ≤ i → listed (drop i ts) k ≡ false
+  unfolding listed
   nowhere h = rw (drop-of-length-le ts h)
 
 -- three letters, one after the other
@@ -67,8 +67,8 @@ alike-equal [] (b ∷ t) e = let z : _≡_ {A = ℕ} 0 1 = cc in absurd (omega a
 alike-equal (a ∷ s) [] e = let z : _≡_ {A = ℕ} 0 1 = cc in absurd (omega arith)
 
 -- a text that is like one of them is one of them
-pub as-one : (ts : List (List ℕ)) (k t : List ℕ) → among ts t ≡ true → alike k t ≡ true → among ts k ≡ true
-as-one ts k t m e = ap (among ts) (alike-equal k t e) ∙ m
+pub as-one : (ts : List (List ℕ)) (k t : List ℕ) → listed ts t ≡ true → alike k t ≡ true → listed ts k ≡ true
+as-one ts k t m e = ap (listed ts) (alike-equal k t e) ∙ m
 
 alike-self : (s : List ℕ) → alike s s ≡ true
 unfolding alike
@@ -76,20 +76,20 @@ alike-self [] = refl
 alike-self (a ∷ s) = rw (eq-eqb a a refl) (alike-self s)
 
 -- the test is membership
-pub member : (ts : List (List ℕ)) (k : List ℕ) → among ts k ≡ true → List·Memᴰ k ts
-unfolding among
+pub member : (ts : List (List ℕ)) (k : List ℕ) → listed ts k ≡ true → List·Memᴰ k ts
+unfolding listed
 member [] k e = let z : _≡_ {A = ℕ} 0 1 = cc in absurd (omega arith)
 member (t ∷ ts) k e = by (alike k t) refl (λ f. member ts k f) e
   where
-    by : (x : Bool) → alike k t ≡ x → (among ts k ≡ true → List·Memᴰ k ts) → (x || among ts k) ≡ true → List·Memᴰ k (t ∷ ts)
+    by : (x : Bool) → alike k t ≡ x → (listed ts k ≡ true → List·Memᴰ k ts) → (x || listed ts k) ≡ true → List·Memᴰ k (t ∷ ts)
     by true f rest e = head (alike-equal k t f)
     by false f rest e = tail (rest e)
 
-pub passes : {ts : List (List ℕ)} {k : List ℕ} → List·Memᴰ k ts → among ts k ≡ true
-unfolding among
-passes {k = k} (head {x = t} {xs = ts} e) = ap (λ (b : Bool). b || among ts k) (sym (ap (alike k) e) ∙ alike-self k)
+pub passes : {ts : List (List ℕ)} {k : List ℕ} → List·Memᴰ k ts → listed ts k ≡ true
+unfolding listed
+passes {k = k} (head {x = t} {xs = ts} e) = ap (λ (b : Bool). b || listed ts k) (sym (ap (alike k) e) ∙ alike-self k)
 passes {k = k} (tail {x = t} {xs = ts} m) = by (alike k t) (passes m)
   where
-    by : (x : Bool) → among ts k ≡ true → (x || among ts k) ≡ true
+    by : (x : Bool) → listed ts k ≡ true → (x || listed ts k) ≡ true
     by true h = refl
     by false h = h

@@ -2,7 +2,7 @@
 use Prim.Native.Nat.{ℕ, _+_, _≤_}
 use native.Mathlib.Omega.{arith}
 use mathlib.Core.Path.{_≡_, ap}
-use mathlib.Core.List.{List, _∷_, _++_}
+use mathlib.Core.List.{List, _∷_}
 use lib.ListN.{length, length-append}
 use Rattle.text.specs.Bytes.{byte}
 use Rattle.frame.specs.Frame.{Parts, accepted, frame, dataFrom}

@@ -9,7 +9,7 @@ use Rattle.utf8.proofs.Worked.{cut-300}
 use Rattle.text.specs.Bytes.{byte, bytes}
 use Rattle.text.specs.Reader.{_>>=_, pure, orMiss, char, until}
 use Rattle.frame.specs.Refused.{badUtf8, notAscii, tooLong, syntaxError, unknownType, badChecksum}
-use Rattle.frame.specs.Types.{types, alike, among}
+use Rattle.frame.specs.Types.{types, alike, listed}
 use Rattle.frame.specs.Checksum.{checksumFrom}
 use Rattle.frame.specs.Digits.{digit, hex}
 use Rattle.frame.specs.Frame.{Outcome, accepted, refused, taken, known, sentenceType, checksumField, sentence, sized, frame}
@@ -39,7 +39,7 @@ rows =
     ∷ []
 
 pub worked : map (λ (r : Row). frame (r .0)) rows ≡ map (λ (r : Row). r .1) rows
-unfolding frame sized sentence sentenceType known checksumField taken among alike types checksumFrom hex digit _>>=_ pure orMiss char until ascii after step follow
+unfolding frame sized sentence sentenceType known checksumField taken listed alike types checksumFrom hex digit _>>=_ pure orMiss char until ascii after step follow
 worked = refl
 
 -- 299 times x, and the first byte of U+00E9: 1, not 3

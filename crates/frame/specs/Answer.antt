@@ -52,9 +52,6 @@ refused (variant.BadPlace p) = badPlace p
 abbrev pub numberOf : Refusal → ℕ
 numberOf r = refused r .number
 
-abbrev pub carries : Refusal → List ℕ
-carries r = refused r .carries
-
 -- a sentence of the line `s`
 abbrev pub parts : List ℕ → Sentence → Parts
 parts s x =
@@ -68,14 +65,14 @@ abbrev pub field : ℕ → Digits → Placed ℕ
 field at NoDigits = unread
 field at (AreDigits v) = upto v (at + 3)
 
-abbrev pub two : ℕ → Two → Placed (List ℕ)
-two at NoTwo = unread
-two at (AreTwo t) = upto (talkerBytes t) (at + 2)
+abbrev pub talkerAt : ℕ → Two → Placed (List ℕ)
+talkerAt at NoTwo = unread
+talkerAt at (AreTwo t) = upto (talkerBytes t) (at + 2)
 
-abbrev pub three : ℕ → Three → Placed (List ℕ)
-three at NoThree = unread
-three at UnknownThree = barred UnknownType
-three at (AreThree k) = upto (letters k) (at + 3)
+abbrev pub kindAt : ℕ → Three → Placed (List ℕ)
+kindAt at NoThree = unread
+kindAt at UnknownThree = barred UnknownType
+kindAt at (AreThree k) = upto (letters k) (at + 3)
 
 abbrev pub read : List ℕ → Read → Placed Parts
 read s NoSentence = unread

@@ -6,9 +6,9 @@ use lib.Dec.{eqb, leb}
 use lib.ListN.{length, take, drop}
 use Rattle.utf8.specs.Utf8.{utf8, ascii}
 use Rattle.text.specs.Bytes.{byte}
-use Rattle.text.specs.Reader.{UnknownType, Parse, miss, refuse, got, Reader, _>>=_, _>>_, pure, orMiss, char, until}
+use Rattle.text.specs.Reader.{UnknownType, Parse, miss, refuse, got, Reader, pure, orMiss, char, until, _>>=_, _>>_}
 use Rattle.frame.specs.Refused.{Refused, badUtf8, notAscii, tooLong, syntaxError, badChecksum, faulted}
-use Rattle.frame.specs.Types.{types, among}
+use Rattle.frame.specs.Types.{types, listed}
 use Rattle.frame.specs.Checksum.{checksum}
 use Rattle.frame.specs.Digits.{hex}
 
@@ -35,7 +35,7 @@ taken n l = cond (leb n (length l)) (got (take n l) (drop n l)) miss
 
 -- "three not in the list is 5, before what follows is looked at"
 unfoldable pub known : List ℕ → Reader (List ℕ)
-known k l = cond (among types k) (got k l) (refuse UnknownType)
+known k l = cond (listed types k) (got k l) (refuse UnknownType)
 
 -- parse_sentence_type
 unfoldable pub sentenceType : Reader (List ℕ)

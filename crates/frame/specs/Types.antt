@@ -47,6 +47,6 @@ alike [] (b ∷ t) = false
 alike (a ∷ s) [] = false
 
 -- a text is one of these
-unfoldable pub among : List (List ℕ) → List ℕ → Bool
-among [] k = false
-among (t ∷ ts) k = alike k t || among ts k
+unfoldable pub listed : List (List ℕ) → List ℕ → Bool
+listed [] k = false
+listed (t ∷ ts) k = alike k t || listed ts k

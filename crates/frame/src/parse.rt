@@ -14,7 +14,7 @@ ghost use Rattle.text.specs.Placed.{Reads};
 ghost use lib.Seq.{slice};
 ghost use Rattle.frame.specs.Checksum.{checksum};
 ghost use Rattle.frame.specs.Frame.{taken, sentenceType, sentence, compared, sized, frame, dataIn};
-ghost use Rattle.frame.specs.Answer.{two, three, read, parts, framed};
+ghost use Rattle.frame.specs.Answer.{talkerAt, kindAt, read, parts, framed};
 
 // Where the data begin, after `$`, talker, type and comma.
 const DATA: usize = 7;
@@ -47,7 +47,7 @@ enum Read {
 
 // Two bytes of any kind.
 fn talker(s: &[u8], at: usize) -> Two
-    ensures { λ r. ⌜ Reads (now (s .entry)) at (taken 2) (two at r) × (now (s .exit) ≡ now (s .entry)) ⌝ }
+    ensures { λ r. ⌜ Reads (now (s .entry)) at (taken 2) (talkerAt at r) × (now (s .exit) ≡ now (s .entry)) ⌝ }
 {
     if s.len() < 2 {
         return Two::No;
@@ -60,7 +60,7 @@ fn talker(s: &[u8], at: usize) -> Two
 
 // Three bytes, and whether they are a type.
 fn sentence_type(s: &[u8], at: usize) -> Three
-    ensures { λ r. ⌜ Reads (now (s .entry)) at sentenceType (three at r) × (now (s .exit) ≡ now (s .entry)) ⌝ }
+    ensures { λ r. ⌜ Reads (now (s .entry)) at sentenceType (kindAt at r) × (now (s .exit) ≡ now (s .entry)) ⌝ }
 {
     if s.len() < 3 {
         return Three::No;

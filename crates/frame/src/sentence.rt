@@ -2,7 +2,7 @@
 use crate::refusal::Kind;
 use crate::refusal::Talker;
 ghost use mathlib.Core.Path.{_≡_};
-ghost use Rattle.frame.specs.Types.{types, alike, among};
+ghost use Rattle.frame.specs.Types.{types, alike, listed};
 ghost use Rattle.frame.specs.Answer.{letters, dataOf};
 
 // `$GPGSA,A,1,,,,*32` has the talker GP, the type GSA, the checksum 0x32, and its data `A,1,,,,` from 7 up to 14.
@@ -97,7 +97,7 @@ fn same(kind: Kind, t: [u8; 3]) -> bool
 
 // Whether a type is one of the thirty. The three whose data are read are tried first.
 pub fn known(kind: Kind) -> bool
-    ensures { λ r. ⌜ r ≡ among types (letters kind) ⌝ }
+    ensures { λ r. ⌜ r ≡ listed types (letters kind) ⌝ }
 {
     if same(kind, *b"GSV") {
         return true;

@@ -2,14 +2,13 @@
 use Prim.Native.Nat.{ℕ, suc, _+_, _-_, _≤_, _<_}
 use native.Mathlib.Omega.{arith}
 use mathlib.Core.Path.{_≡_, refl, ap, sym, _∙_, subst}
-use mathlib.Core.List.{List, [], _∷_}
-use mathlib.Core.Bool.{Bool, true, false, _&&_}
+use mathlib.Core.List.{List, _∷_}
+use mathlib.Core.Bool.{Bool, true, false, _&&_, cond}
 use lib.Dec.{leb, ltb}
 use lib.ListN.{length, take, drop, getD, length-take, drop-of-length-le}
 use lib.Seq.{drop-cons, getD-take}
 use native.Mathlib.Numerals.{add-one}
 use borrow.Author.Tests.{lt-ltb, le-ltb, le-leb, lt-leb, leb-true}
-use Rattle.groups.specs.Step.{pick}
 use Rattle.short.specs.Digits.{digitsOf}
 use Rattle.short.proofs.Digits.{digit-one}
 use Rattle.pack.specs.Cut.{more, pieceCount}
@@ -19,7 +18,7 @@ use Rattle.gather.specs.Lent.{sizeOf}
 use Rattle.gather.specs.Pile.{Digits, OptDigits, Sized, putOn}
 use Rattle.gather.specs.declared.lent.Pile.{Pile}
 use Rattle.text.specs.declared.Held.{Held}
-use Rattle.text.specs.declared.Held.the-variants.{Absent, Known}
+use Rattle.text.specs.declared.Held.the-variants.{Known}
 use Rattle.gsv.specs.declared.SatInfo.{SatInfo}
 use Rattle.gather.specs.Cells.{noSat}
 use Rattle.short.proofs.Texts.{entry-length}
@@ -45,10 +44,10 @@ unfolding more
 put-more p s ss room = by (ltb (p .count) 4 && leb (p .used + sizeOf s) room)
   where
     q : Bool → Pile
-    q t = pick t (record { lines = p .lines; count = p .count + 1; used = p .used + sizeOf s }) (record { lines = p .lines + 1; count = 1; used = sizeOf s })
+    q t = cond t (record { lines = p .lines; count = p .count + 1; used = p .used + sizeOf s }) (record { lines = p .lines + 1; count = 1; used = sizeOf s })
 
     by : (t : Bool)
-        → p .lines + (pick t 0 1 + more sizeOf room (pick t (suc (p .count)) 1) (pick t (p .used + sizeOf s) (sizeOf s)) ss)
+        → p .lines + (cond t 0 1 + more sizeOf room (cond t (suc (p .count)) 1) (cond t (p .used + sizeOf s) (sizeOf s)) ss)
         ≡ q t .lines + more sizeOf room (q t .count) (q t .used) ss
     by true =
         let z : suc (p .count) ≡ p .count + 1 = omega arith in
@@ -64,7 +63,7 @@ pub small-put : (i : ℕ) (p : Pile) (w room : ℕ) → Small i p → w ≤ 44 �
 small-put i p w room h k l = by (ltb (p .count) 4) (leb (p .used + w) room) refl
   where
     by : (a b : Bool) → leb (p .used + w) room ≡ b
-        → Small (i + 1) (pick (a && b) (record { lines = p .lines; count = p .count + 1; used = p .used + w }) (record { lines = p .lines + 1; count = 1; used = w }))
+        → Small (i + 1) (cond (a && b) (record { lines = p .lines; count = p .count + 1; used = p .used + w }) (record { lines = p .lines + 1; count = 1; used = w }))
     by true true e =
         let f : p .used + w ≤ room = leb-true _ _ e in
         record { lines = omega (arith, h .lines); used = omega arith }

@@ -4,16 +4,16 @@ use native.Mathlib.Omega.{arith}
 use mathlib.Core.Path.{_≡_, refl, ap, sym, _∙_}
 use mathlib.Core.Logic.{_↔_}
 use mathlib.Core.List.{List, [], _∷_, _++_, map}
-use mathlib.Core.Bool.{Bool, true, false, _&&_}
+use mathlib.Core.Bool.{Bool, true, false, _&&_, cond}
 use mathlib.Core.Option.{Option, none, some}
 use borrow.Author.Tests.{lt-ltb, le-ltb, le-leb, leb-true}
-use lib.Dec.{leb, ltb}
+use lib.Dec.{leb}
 use lib.ListN.{length, take, replicate, length-map}
 use lib.Seq.{take-append-seam, length-take-le}
 use Rattle.text.specs.Answer.{held}
 use Rattle.text.specs.declared.Held.{Held}
 use Rattle.text.specs.declared.Held.the-variants.{Absent, Known}
-use Rattle.groups.specs.Step.{Open, pick}
+use Rattle.groups.specs.Step.{Open}
 use Rattle.groups.specs.Left.{All}
 use Rattle.gsv.specs.Gsv.{Satellite}
 use Rattle.gsv.specs.Answer.{satellite}
@@ -21,11 +21,11 @@ use Rattle.gsv.specs.declared.SatInfo.{SatInfo}
 use Rattle.pack.specs.Cut.{pieceCount}
 use Rattle.pack.proofs.Same.{same-count}
 use Rattle.rows.specs.Key.{rowCount}
-use Rattle.rows.specs.Leave.{Leavable, upto, readable, allReadable, size, space, leavable, Stands}
-use Rattle.rows.proofs.Row.{row-exactly, few-entries, are-readable}
+use Rattle.rows.specs.Leave.{Leavable, upto, readable, allReadable, entrySize, space, leavable, Stands}
+use Rattle.rows.proofs.Row.{row-exactly, few-entries}
 use Rattle.gather.specs.Cells.{known, cell, noSat, pad}
 use Rattle.gather.specs.Lent.{small, isNoSat, fair, cellGood, cellsGood, sizeOf, stands}
-use Rattle.gather.specs.Put.{opened, meant, rowOf, emptyRow}
+use Rattle.gather.specs.Put.{opened, meant, rowOf}
 use Rattle.gather.specs.declared.row.Row.{Row}
 use Rattle.gather.proofs.Padding.{both, good-pad}
 use Rattle.gather.proofs.Back.{forth, forths, backs}
@@ -78,7 +78,7 @@ pad-cells : (cs : List SatInfo) (m i k : ℕ) → k ≡ i + length cs → All Fa
 pad-cells [] m i k e p = none-cells m i k (omega arith)
 pad-cells (s ∷ cs) m i k e p =
     let h : i < k = omega arith in
-    ap (λ (b : Bool). pick b (fair s) (isNoSat s) && cellsGood (suc i) k (cs ++ replicate m noSat)) (lt-ltb i k h)
+    ap (λ (b : Bool). cond b (fair s) (isNoSat s) && cellsGood (suc i) k (cs ++ replicate m noSat)) (lt-ltb i k h)
     ∙ ap (λ (b : Bool). b && cellsGood (suc i) k (cs ++ replicate m noSat)) (p .0)
     ∙ pad-cells cs m (suc i) k (omega arith) (p .1)
 
@@ -108,7 +108,7 @@ written-stands o e =
     (and _ _ (le-leb _ _ (few-entries o e))
     (and _ _ (pad-cells cs (36 - length cs) 0 (length (o .sats)) (omega arith) (cells-fair (o .sats) g))
     (ap (λ (l : List SatInfo). leb (pieceCount sizeOf (space (o .view)) l) (o .next - 1)) seam
-    ∙ ap (λ (n : ℕ). leb n (o .next - 1)) (same-count cell sizeOf size (λ s. ap size (forth s)) (space (o .view)) (o .sats))
+    ∙ ap (λ (n : ℕ). leb n (o .next - 1)) (same-count cell sizeOf entrySize (λ s. ap entrySize (forth s)) (space (o .view)) (o .sats))
     ∙ h))))))
 
 -- a run's row means the run
@@ -122,7 +122,7 @@ round (some o) s =
     ∙ ap (map satellite) (take-append-seam cs (replicate (36 - length cs) noSat))
     ∙ forths (o .sats)
     in
-    ap (λ (b : Bool). pick b (some (opened (rowOf (some o)))) none) (written-stands o s)
+    ap (λ (b : Bool). cond b (some (opened (rowOf (some o)))) none) (written-stands o s)
     ∙ ap (λ (l : List Satellite). some (record { n = o .n; next = o .next; view = o .view; sats = l })) seam
 
 -- what the code's types say of a row
@@ -148,7 +148,7 @@ stands-leavable r t e =
       and _ _ a
           (and _ _ b
           (and _ _ c
-          (and _ _ d (and _ _ p (ap (λ (n : ℕ). leb n (r .next - 1)) (same-count satellite size sizeOf (λ s. refl) (space (r .view)) cs) ∙ h))))),
+          (and _ _ d (and _ _ p (ap (λ (n : ℕ). leb n (r .next - 1)) (same-count satellite entrySize sizeOf (λ s. refl) (space (r .view)) cs) ∙ h))))),
       λ i.
           record {
             n = r .n;

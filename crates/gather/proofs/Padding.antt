@@ -1,10 +1,10 @@
 -- The cells of a row whose unused cells hold no satellite.
-use Prim.Native.Nat.{ℕ, suc, _+_, _-_, _≤_, _<_}
+use Prim.Native.Nat.{ℕ, suc, _+_, _-_, _≤_}
 use native.Mathlib.Omega.{arith}
 use mathlib.Core.Path.{_≡_, refl, ap, sym, _∙_}
 use mathlib.Core.List.{List, [], _∷_, _++_}
 use mathlib.Core.Bool.{Bool, true, false, _&&_}
-use borrow.Author.Tests.{eqb-true, lt-ltb, le-ltb}
+use borrow.Author.Tests.{eqb-true, le-ltb}
 use lib.Dec.{eqb}
 use lib.ListN.{length, take, drop, replicate, length-append}
 use lib.Seq.{take-append-seam, length-take-le, drop-append-add, paste}

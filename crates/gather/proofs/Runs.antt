@@ -1,16 +1,16 @@
 -- A line starts a run, goes on with one, or does neither: what the code's entries before a line say of the theory's. Assumes nothing.
-use Prim.Native.Nat.{ℕ, _+_, _-_, _*_, _≤_, _<_}
+use Prim.Native.Nat.{_+_, _-_, _≤_, _<_}
 use native.Mathlib.Omega.{arith}
 use mathlib.Core.Path.{_≡_, refl, ap, sym, _∙_}
 use mathlib.Core.List.{List, [], _++_, map, map-append}
-use mathlib.Core.Bool.{Bool, true, false, _&&_, false≢true}
+use mathlib.Core.Bool.{Bool, true, false, _&&_, false≢true, cond}
 use mathlib.Core.Option.{Option, none, some, Option·none-ne-some}
 use borrow.Author.Tests.{eq-eqb, ne-eqb, le-leb, lt-leb, leb-true, eqb-true}
 use lib.Dec.{eqb, leb}
-use lib.ListN.{length, take, replicate, length-append, length-map}
+use lib.ListN.{length, take, length-append, length-map}
 use lib.Seq.{paste, length-take-le}
 use Rattle.groups.specs.Log.{Gsv}
-use Rattle.groups.specs.Step.{Open, Out, pick, onward, sofar, taken, step}
+use Rattle.groups.specs.Step.{Open, Out, onward, sofar, taken, step}
 use Rattle.gsv.specs.Gsv.{Satellite, present}
 use Rattle.gsv.specs.Answer.{satellite}
 use Rattle.gsv.specs.declared.SatInfo.{SatInfo}
@@ -19,7 +19,7 @@ use Rattle.pack.proofs.Few.{four-each}
 use Rattle.rows.specs.Leave.{space}
 use Rattle.rows.specs.Line.{lineOf}
 use Rattle.sentence.specs.Sentence.{GsvSentence}
-use Rattle.gather.specs.Cells.{cell, noSat, pad, fourOf}
+use Rattle.gather.specs.Cells.{cell, pad, fourOf}
 use Rattle.gather.specs.Lent.{cellsGood, sizeOf, stands}
 use Rattle.gather.specs.Put.{opened, meant, onRow, beforeOf, emptyRow, noGroup, putOf, keptOf}
 use Rattle.gather.specs.declared.row.Row.{Row}
@@ -47,37 +47,37 @@ module _ (r : Option (Open Satellite)) (l : GsvSentence) (one : l .body .index �
 
 -- another line
 module _ (r : Row) (l : GsvSentence) where
-  on-is : onward (meant r) (lineOf l) ≡ pick (onRow r l) (some (opened r .sats)) none
+  on-is : onward (meant r) (lineOf l) ≡ cond (onRow r l) (some (opened r .sats)) none
   on-is = go (stands r)
     where
       es : Option (List Satellite)
       es = some (opened r .sats)
 
-      tests : (a b c : Bool) → pick (a && (b && c)) es none ≡ pick (a && (b && (c && true))) es none
+      tests : (a b c : Bool) → cond (a && (b && c)) es none ≡ cond (a && (b && (c && true))) es none
       tests true true true = refl
       tests true true false = refl
       tests true false c = refl
       tests false b c = refl
 
-      fails : (a b c : Bool) → none ≡ pick (a && (b && (c && false))) es none
+      fails : (a b c : Bool) → none ≡ cond (a && (b && (c && false))) es none
       fails true true true = refl
       fails true true false = refl
       fails true false c = refl
       fails false b c = refl
 
-      go : (s : Bool) → onward (pick s (some (opened r)) none) (lineOf l)
-          ≡ pick (eqb (l .body .count) (r .n) && (eqb (l .body .index) (r .next) && (eqb (l .body .view) (r .view) && s))) es none
+      go : (s : Bool) → onward (cond s (some (opened r)) none) (lineOf l)
+          ≡ cond (eqb (l .body .count) (r .n) && (eqb (l .body .index) (r .next) && (eqb (l .body .view) (r .view) && s))) es none
       go true = tests (eqb (l .body .count) (r .n)) (eqb (l .body .index) (r .next)) (eqb (l .body .view) (r .view))
       go false = fails (eqb (l .body .count) (r .n)) (eqb (l .body .index) (r .next)) (eqb (l .body .view) (r .view))
 
   module _ (more : l .body .index ≡ 1 → ⊥) where
-    answers : (b : Bool) → onRow r l ≡ b → sofar (meant r) (lineOf l) ≡ pick b (some (opened r .sats)) none
+    answers : (b : Bool) → onRow r l ≡ b → sofar (meant r) (lineOf l) ≡ cond b (some (opened r .sats)) none
     answers b e =
         ap
-        (λ (t : Bool). pick t (pick (leb 1 (l .body .count) && leb (l .body .count) 9) (some []) none) (onward (meant r) (lineOf l)))
+        (λ (t : Bool). cond t (cond (leb 1 (l .body .count) && leb (l .body .count) 9) (some []) none) (onward (meant r) (lineOf l)))
         (ne-eqb (l .body .index) 1 more)
         ∙ on-is
-        ∙ ap (λ (x : Bool). pick x (some (opened r .sats)) none) e
+        ∙ ap (λ (x : Bool). cond x (some (opened r .sats)) none) e
 
     pub breaks : onRow r l ≡ false → sofar (meant r) (lineOf l) ≡ none
     breaks e = answers false e
@@ -128,11 +128,11 @@ module _ (r : Row) (l : GsvSentence) where
   found : length (r .sats) ≡ 36 → (es : List Satellite) → sofar (meant r) (lineOf l) ≡ some es → (length es ≤ 32) × (l .body .index ≤ 9)
   found room es e = by-number (eqb (l .body .index) 1) refl e
     where
-      by-range : (a : Bool) → l .body .index ≡ 1 → pick a (some []) none ≡ some es → (length es ≤ 32) × (l .body .index ≤ 9)
+      by-range : (a : Bool) → l .body .index ≡ 1 → cond a (some []) none ≡ some es → (length es ≤ 32) × (l .body .index ≤ 9)
       by-range true one q = let z : [] ≡ es = cc in (omega (arith, ap length z), omega arith)
       by-range false one q = absurd (Option·none-ne-some _ q)
 
-      by-row : (a : Bool) → onRow r l ≡ a → pick a (some (opened r .sats)) none ≡ some es → (length es ≤ 32) × (l .body .index ≤ 9)
+      by-row : (a : Bool) → onRow r l ≡ a → cond a (some (opened r .sats)) none ≡ some es → (length es ≤ 32) × (l .body .index ≤ 9)
       by-row true h q =
           let g = good room h in
           let cs : List SatInfo = take (r .count) (r .sats) in
@@ -141,7 +141,7 @@ module _ (r : Row) (l : GsvSentence) where
       by-row false h q = absurd (Option·none-ne-some _ q)
 
       by-number : (a : Bool) → eqb (l .body .index) 1 ≡ a
-          → pick a (pick (leb 1 (l .body .count) && leb (l .body .count) 9) (some []) none) (onward (meant r) (lineOf l)) ≡ some es
+          → cond a (cond (leb 1 (l .body .count) && leb (l .body .count) 9) (some []) none) (onward (meant r) (lineOf l)) ≡ some es
           → (length es ≤ 32) × (l .body .index ≤ 9)
       by-number true h q = by-range (leb 1 (l .body .count) && leb (l .body .count) 9) (eqb-true _ _ h) q
       by-number false h q = by-row (onRow r l) refl (sym on-is ∙ q)

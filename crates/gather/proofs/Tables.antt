@@ -3,14 +3,14 @@ use Prim.Native.Nat.{ℕ, suc, _+_, _-_, _≤_, _<_}
 use native.Mathlib.Omega.{arith}
 use mathlib.Core.Path.{_≡_, refl, ap, sym, _∙_}
 use mathlib.Core.List.{List, [], _∷_, map}
-use mathlib.Core.Bool.{Bool, true, false}
+use mathlib.Core.Bool.{Bool, true, false, cond}
 use mathlib.Core.Option.{Option, some}
 use borrow.Author.Tests.{eq-eqb, ne-eqb}
 use lib.Dec.{eqb}
 use lib.ListN.{length, take, getD, set, replicate, length-map}
 use lib.Seq.{take-append-seam}
 use Rattle.groups.specs.Log.{Line, gsv, Group}
-use Rattle.groups.specs.Step.{Open, Out, Table, pick, step, fresh, next, after}
+use Rattle.groups.specs.Step.{Open, Out, Table, step, next, after}
 use Rattle.groups.specs.Left.{All}
 use Rattle.gsv.specs.Gsv.{Satellite}
 use Rattle.gsv.specs.Answer.{satellite}
@@ -23,7 +23,7 @@ use Rattle.sentence.specs.Sentence.{GsvSentence}
 use Rattle.short.specs.Room.{Written}
 use Rattle.gather.specs.Cells.{cell, noSat, pad}
 use Rattle.gather.specs.Put.{meant, rowOf, isSome, groupOf, emptyRow, putOf}
-use Rattle.gather.specs.Table.{freshGatherer, handedBy, stored, gatheredOf}
+use Rattle.gather.specs.Table.{handedBy, stored, gatheredOf}
 use Rattle.gather.specs.Run.{run}
 use Rattle.gather.specs.declared.row.Row.{Row}
 use Rattle.gather.specs.declared.row.Group.{Group as Cells}
@@ -49,15 +49,15 @@ module _ {X : Type 0} where
   rows-same ℕ.zero i f g e = refl
   rows-same (suc n) i f g e = λ j. e i (omega arith) j ∷ rows-same n (suc i) f g (λ k h. e k (omega arith)) j
 
-  pub rows-set : (n i k m : ℕ) (f : ℕ → X) (r : X) → k < n → m ≡ i + k → set (rows n i f) k r ≡ rows n i (λ κ. pick (eqb m κ) r (f κ))
+  pub rows-set : (n i k m : ℕ) (f : ℕ → X) (r : X) → k < n → m ≡ i + k → set (rows n i f) k r ≡ rows n i (λ κ. cond (eqb m κ) r (f κ))
   rows-set ℕ.zero i k m f r h e = absurd (omega arith)
   rows-set (suc n) i ℕ.zero m f r h e =
       λ j.
-      sym (ap (λ (b : Bool). pick b r (f i)) (eq-eqb m i (omega arith))) j
-      ∷ rows-same n (suc i) f (λ κ. pick (eqb m κ) r (f κ)) (λ k h'. sym (ap (λ (b : Bool). pick b r (f k)) (ne-eqb m k (λ q. omega arith)))) j
+      sym (ap (λ (b : Bool). cond b r (f i)) (eq-eqb m i (omega arith))) j
+      ∷ rows-same n (suc i) f (λ κ. cond (eqb m κ) r (f κ)) (λ k h'. sym (ap (λ (b : Bool). cond b r (f k)) (ne-eqb m k (λ q. omega arith)))) j
   rows-set (suc n) i (suc k) m f r h e =
       λ j.
-      sym (ap (λ (b : Bool). pick b r (f i)) (ne-eqb m i (λ q. omega arith))) j ∷ rows-set n (suc i) k m f r (omega arith) (omega arith) j
+      sym (ap (λ (b : Bool). cond b r (f i)) (ne-eqb m i (λ q. omega arith))) j ∷ rows-set n (suc i) k m f r (omega arith) (omega arith) j
 
 -- what a map makes of each row of a table
 module _ {X : Type 0} (f : Option (Open Satellite) → X) where
@@ -67,7 +67,7 @@ module _ {X : Type 0} (f : Option (Open Satellite) → X) where
   pub each-at : (t : Table Satellite) (κ : ℕ) (d : X) → κ < rowCount → getD (eachRow t) κ d ≡ f (t κ)
   each-at t κ d h = let z : 0 + κ ≡ κ = omega arith in rows-at rowCount 0 κ (λ κ. f (t κ)) d h ∙ ap (λ (k : ℕ). f (t k)) z
 
-  picked : (b : Bool) (x y : Option (Open Satellite)) → pick b (f x) (f y) ≡ f (pick b x y)
+  picked : (b : Bool) (x y : Option (Open Satellite)) → cond b (f x) (f y) ≡ f (cond b x y)
   picked true x y = refl
   picked false x y = refl
 
@@ -79,14 +79,11 @@ module _ {X : Type 0} (f : Option (Open Satellite) → X) where
       let x = step (t k) (lineOf l) .row in
       let z : k ≡ 0 + k = omega arith in
       rows-set rowCount 0 k k (λ κ. f (t κ)) (f x) (key-below (l .system)) z
-      ∙ rows-same rowCount 0 (λ κ. pick (eqb k κ) (f x) (f (t κ))) (λ κ. f (next t (gsv (lineOf l)) κ)) (λ κ h. picked (eqb k κ) x (t κ))
+      ∙ rows-same rowCount 0 (λ κ. cond (eqb k κ) (f x) (f (t κ))) (λ κ. f (next t (gsv (lineOf l)) κ)) (λ κ h. picked (eqb k κ) x (t κ))
 
 -- the gatherer that holds a table
 abbrev pub held : Table Satellite → Gatherer
 held t = record { rows = eachRow rowOf t }
-
-pub held-fresh : held fresh ≡ freshGatherer
-held-fresh = refl
 
 -- a table that lines can leave
 abbrev pub AllStand : Table Satellite → Type 0
@@ -118,7 +115,7 @@ held-next t l s =
 pub stand-next : (t : Table Satellite) (l : GsvSentence) → AllStand t → Written l → AllStand (next t (gsv (lineOf l)))
 stand-next t l s w κ = go (eqb (keyOf (l .system)) κ)
   where
-    go : (b : Bool) → Stands (pick b (step (t (keyOf (l .system))) (lineOf l) .row) (t κ))
+    go : (b : Bool) → Stands (cond b (step (t (keyOf (l .system))) (lineOf l) .row) (t κ))
     go true = stands-step (t (keyOf (l .system))) (w .line) l (w .accepted) (s (keyOf (l .system)))
     go false = s κ
 

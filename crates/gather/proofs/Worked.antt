@@ -3,12 +3,11 @@ use Prim.Native.Nat.{ℕ}
 use mathlib.Core.Path.{_≡_, refl}
 use mathlib.Core.List.{List, [], _∷_}
 use mathlib.Core.Bool.{true, false}
-use mathlib.Core.Option.{none, some}
+use mathlib.Core.Option.{none}
 use Rattle.text.specs.Bytes.{bytes}
 use Rattle.text.specs.declared.Held.the-variants.{Absent, Known}
 use Rattle.groups.specs.Step.{step}
 use Rattle.gsv.specs.Talker.{gps}
-use Rattle.gsv.specs.Gsv.{Satellite}
 use Rattle.gsv.specs.declared.SatInfo.{SatInfo}
 use Rattle.pack.specs.Cut.{more}
 use Rattle.rows.specs.Line.{lineOf}

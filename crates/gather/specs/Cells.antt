@@ -1,6 +1,6 @@
 -- The cells of a row or a group: its satellites first, and no satellite in each cell after them.
 use Prim.Native.Nat.{ℕ, _+_, _-_}
-use mathlib.Core.List.{List, [], _∷_, _++_, map}
+use mathlib.Core.List.{List, _++_, map}
 use mathlib.Core.Option.{Option, none, some}
 use lib.ListN.{length, replicate, set}
 use Rattle.text.specs.declared.Held.{Held}

@@ -1,11 +1,10 @@
 -- For the code, not for a reader of the scope: how the test of a lent row counts.
 use Prim.Native.Nat.{ℕ, _+_, _≤_}
 use mathlib.Core.Path.{_≡_}
-use mathlib.Core.Bool.{Bool, _&&_}
+use mathlib.Core.Bool.{_&&_, cond}
 use mathlib.Core.Option.{Option}
 use lib.Dec.{leb, ltb}
 use lib.ListN.{length}
-use Rattle.groups.specs.Step.{pick}
 use Rattle.short.specs.Digits.{digitsOf}
 use Rattle.short.specs.Texts.{optText}
 use Rattle.gsv.specs.declared.SatInfo.{SatInfo}
@@ -27,7 +26,7 @@ pub record Sized (s : SatInfo) (r : ℕ) : Type 0 where
 -- greedy: an entry of w bytes goes to the line at hand if there is room, or else to a new one
 abbrev pub putOn : Pile → ℕ → ℕ → Pile
 putOn p w room =
-    pick (ltb (p .count) 4 && leb (p .used + w) room) (record { lines = p .lines; count = p .count + 1; used = p .used + w })
+    cond (ltb (p .count) 4 && leb (p .used + w) room) (record { lines = p .lines; count = p .count + 1; used = p .used + w })
     (record { lines = p .lines + 1; count = 1; used = w })
 
 pub record Puts (p : Pile) (w : ℕ) : Type 0 where

@@ -1,12 +1,11 @@
 -- What a line does to a lent row, whatever the row holds.
-use Prim.Native.Nat.{ℕ}
 use mathlib.Core.List.{List, [], map}
-use mathlib.Core.Bool.{Bool, true, false, _&&_}
+use mathlib.Core.Bool.{Bool, true, false, _&&_, cond}
 use mathlib.Core.Option.{Option, none, some}
 use lib.Dec.{eqb}
 use lib.ListN.{length, take}
 use Rattle.groups.specs.Log.{Group as Gathered}
-use Rattle.groups.specs.Step.{Open, Out, pick}
+use Rattle.groups.specs.Step.{Open, Out}
 use Rattle.gsv.specs.Gsv.{Satellite}
 use Rattle.gsv.specs.Answer.{satellite}
 use Rattle.sentence.specs.Sentence.{GsvSentence}
@@ -24,7 +23,7 @@ opened r = record { n = r .n; next = r .next; view = r .view; sats = map satelli
 
 -- what the row means: "a row of a lent gatherer that no run of lines could leave counts as empty"
 abbrev pub meant : Row → Option (Open Satellite)
-meant r = pick (stands r) (some (opened r)) none
+meant r = cond (stands r) (some (opened r)) none
 
 abbrev pub emptyRow : Row
 emptyRow = record { n = 0; next = 0; view = 0; count = 0; sats = pad [] }

@@ -1,16 +1,14 @@
 // What an accepted GSV line does to its row, whatever the row holds.
 ghost use mathlib.Core.Path.{_≡_};
-ghost use mathlib.Core.List.{map};
-ghost use mathlib.Core.Option.{none, some};
+ghost use mathlib.Core.Option.{none};
 ghost use Prim.Native.Nat.{_≤_, _<_};
-ghost use lib.ListN.{take};
 ghost use lib.Seq.{paste};
-ghost use Rattle.groups.specs.Step.{sofar, taken, step};
+ghost use Rattle.groups.specs.Step.{sofar, step};
 ghost use Rattle.gsv.specs.Gsv.{present};
-ghost use Rattle.gsv.specs.Answer.{satellite, slot, gsvData};
+ghost use Rattle.gsv.specs.Answer.{gsvData};
 ghost use Rattle.rows.specs.Line.{lineOf};
 ghost use Rattle.sentence.specs.Answer.{gsvSentence};
-ghost use Rattle.gather.specs.Cells.{pad, pushed, fourOf};
+ghost use Rattle.gather.specs.Cells.{pushed, fourOf};
 ghost use Rattle.gather.specs.Put.{meant, onRow, beforeOf, putOf, keptOf};
 use crate::lent;
 use crate::row;

@@ -11,7 +11,7 @@ use lib.Dec.{eqb, leb, ltb}
 use borrow.Author.Tests.{leb-true}
 use Rattle.text.specs.Bytes.{byte}
 use Rattle.text.specs.Reader.{Parse, miss, refuse, got, after, _>>=_, pure, orNone, opt, char}
-use Rattle.text.specs.Number.{isDigit, digits, afterDigits, valueFrom, numberFrom, number}
+use Rattle.text.specs.Number.{isDigit, leadingDigits, afterDigits, valueFrom, numberFrom, number}
 use Rattle.gsa.specs.Gsa.{item, itemMax}
 
 -- a number that is absent or at most `max`
@@ -34,17 +34,17 @@ after-digits (b ∷ l) = by (isDigit b) (after-digits l)
 
 opt-fair : (max : ℕ) (l : List ℕ) {a : Option ℕ} {m : List ℕ} → opt (number max) l ≡ got a m → Fair max l a m
 unfolding opt number numberFrom
-opt-fair max l e = by (ltb 0 (length (digits l))) (leb (valueFrom 0 (digits l)) max) refl e
+opt-fair max l e = by (ltb 0 (length (leadingDigits l))) (leb (valueFrom 0 (leadingDigits l)) max) refl e
   where
     absent : {a : Option ℕ} {m : List ℕ} → none ≡ a → l ≡ m → Fair max l a m
     absent f g = record { eats = rw (← g) (omega arith); small = rw (← f) nothing }
 
-    by : (t u : Bool) {a : Option ℕ} {m : List ℕ} → leb (valueFrom 0 (digits l)) max ≡ u
-        → orNone (cond t (cond u (got (valueFrom 0 (digits l)) (afterDigits l)) miss) miss) l ≡ got a m → Fair max l a m
+    by : (t u : Bool) {a : Option ℕ} {m : List ℕ} → leb (valueFrom 0 (leadingDigits l)) max ≡ u
+        → orNone (cond t (cond u (got (valueFrom 0 (leadingDigits l)) (afterDigits l)) miss) miss) l ≡ got a m → Fair max l a m
     by true true {a} {m} f e =
-        let g : some (valueFrom 0 (digits l)) ≡ a = cc in
+        let g : some (valueFrom 0 (leadingDigits l)) ≡ a = cc in
         let h : afterDigits l ≡ m = cc in
-        record { eats = rw (← h) (after-digits l); small = rw (← g) (below (leb-true (valueFrom 0 (digits l)) max f)) }
+        record { eats = rw (← h) (after-digits l); small = rw (← g) (below (leb-true (valueFrom 0 (leadingDigits l)) max f)) }
     by true false f e = absent (cc) (cc)
     by false u f e = absent (cc) (cc)
 

@@ -11,7 +11,7 @@ use Rattle.text.specs.Bytes.{byte}
 use Rattle.text.specs.Reader.{miss, got, Reader}
 use Rattle.text.specs.Placed.{Reads, unread, upto}
 use Rattle.text.proofs.Places.{here, ended, a-read, no-read}
-use Rattle.gsa.specs.Many.{skip, eof, oneOf3}
+use Rattle.text.specs.Many.{skip, eof, oneOf3}
 
 module _ (c : ℕ) (s : List ℕ) (i : ℕ) where
   pub skip-more : i < length s → getD s i 0 ≡ c → skip c (drop i s) ≡ skip c (drop (i + 1) s)

@@ -9,7 +9,7 @@ use lib.ListN.{length, take, drop, set, length-append, length-drop}
 use Rattle.text.specs.Reader.{Parse, miss, refuse, got, after, Reader, prepend, _>>=_, pure}
 use Rattle.text.specs.Placed.{Reads, upto}
 use Rattle.text.proofs.Places.{Took, a-read}
-use Rattle.gsa.specs.Many.{many, many0}
+use Rattle.text.specs.Many.{many, many0}
 use Rattle.gsa.specs.Gsa.{item, prnFields, filled, kept}
 use Rattle.gsa.specs.Answer.{row, Row}
 use Rattle.gsa.proofs.Eats.{item-eats}

@@ -9,7 +9,7 @@ use Rattle.decimal.specs.Answer.{aShort}
 use Rattle.decimal.specs.declared.ShortDecimal.{ShortDecimal}
 use Rattle.text.specs.Value.{Value}
 use Rattle.gsa.specs.Gsa.{Gsa, Dops}
-use Rattle.gsa.specs.Answer.{system, three, dopsOf, gsaOf, said, Answers, settled}
+use Rattle.gsa.specs.Answer.{system, threeDops, dopsOf, gsaOf, said, Answers, settled}
 use Rattle.gsa.specs.declared.System.{System}
 use Rattle.gsa.specs.declared.System.the-variants.{Absent as NoSystem, Is as ASystem}
 use Rattle.gsa.specs.declared.Dops.{Dops as Three}
@@ -41,7 +41,7 @@ dops-only NoThree NoThree e = refl
 dops-only NoThree (ThreeAre p h v) e = let z : _≡_ {A = ℕ} 0 1 = cc in absurd (omega arith)
 dops-only (ThreeAre p h v) NoThree e = let z : _≡_ {A = ℕ} 0 1 = cc in absurd (omega arith)
 dops-only (ThreeAre p h v) (ThreeAre p′ h′ v′) e =
-    let f : three p h v ≡ three p′ h′ v′ = cc in
+    let f : threeDops p h v ≡ threeDops p′ h′ v′ = cc in
     let a = short-only p p′ (ap (λ (d : Dops). d .pdop) f) in
     let b = short-only h h′ (ap (λ (d : Dops). d .hdop) f) in
     let c = short-only v v′ (ap (λ (d : Dops). d .vdop) f) in

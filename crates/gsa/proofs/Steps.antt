@@ -13,7 +13,7 @@ use Rattle.decimal.specs.Answer.{aShort}
 use Rattle.decimal.proofs.Steps.{fail-short, go-no-short, go-short}
 use Rattle.decimal.specs.declared.ShortDecimal.{ShortDecimal}
 use Rattle.gsa.specs.Gsa.{Dops, Tail}
-use Rattle.gsa.specs.Answer.{system, systemAt, emptied, dopAt, three, dopsAt, prnsAt, tailed, tailAt}
+use Rattle.gsa.specs.Answer.{system, systemAt, emptied, dopAt, threeDops, dopsAt, prnsAt, tailed, tailAt}
 use Rattle.gsa.specs.declared.System.{System}
 use Rattle.gsa.specs.declared.SystemAt.{SystemAt}
 use Rattle.gsa.specs.declared.Ending.{Ending}
@@ -42,7 +42,7 @@ module _ {B : Type 0} {s : List ℕ} {at : ℕ} where
   pub fail-dops : {q : Reader Dops} (k : Dops → Reader B) {r : DopsAt} → r ≡ NotDops → Reads s at q (dopsAt r) → Reads s at (q >>= k) (refused Number)
   fail-dops k e t = fail k t (ap dopsAt e)
 
-  pub go-dops : {q : Reader Dops} (k : Dops → Reader B) {r : DopsAt} {d e f : ShortDecimal} {p : ℕ} {b : Placed B} → r ≡ DopsAre d e f p → Reads s at q (dopsAt r) → Reads s p (k (three d e f)) b → Reads s at (q >>= k) b
+  pub go-dops : {q : Reader Dops} (k : Dops → Reader B) {r : DopsAt} {d e f : ShortDecimal} {p : ℕ} {b : Placed B} → r ≡ DopsAre d e f p → Reads s at q (dopsAt r) → Reads s p (k (threeDops d e f)) b → Reads s at (q >>= k) b
   go-dops k e t u = go k t (ap dopsAt e) u
 
   pub go-prns : {q : Reader (List ℕ)} (k : List ℕ → Reader B) (r : PrnsAt) {b : Placed B} → Reads s at q (prnsAt r) → Reads s (r .at) (k (take (r .count) (r .satellites))) b → Reads s at (q >>= k) b
@@ -69,7 +69,7 @@ module _ {B : Type 0} {s : List ℕ} {at : ℕ} where
 
       pub go-tail : {x y z : ShortDecimal} {v : System} {p : ℕ} {b : Placed B} → r ≡ NoEnding → t .answer ≡ ATail x y z v p
           → Reads s at e (emptied r) → Reads s at f (tailAt t)
-          → Reads s p (k (record { satellites = take (t .count) (t .satellites); dops = some (three x y z); system = system v })) b
+          → Reads s p (k (record { satellites = take (t .count) (t .satellites); dops = some (threeDops x y z); system = system v })) b
           → Reads s at (alt e f >>= k) b
       go-tail g a h u w = go k (second g h u) (ap (tailed (take (t .count) (t .satellites))) a) w
 

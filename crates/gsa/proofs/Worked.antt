@@ -7,9 +7,9 @@ use mathlib.Core.Option.{Option, none, some}
 use Rattle.text.specs.Bytes.{byte, bytes}
 use Rattle.text.specs.Reader.{Number, _>>=_, pure, opt, alt, orMiss, char, oneOf}
 use Rattle.text.specs.Number.{number, numberFrom}
-use Rattle.decimal.specs.Decimal.{decimal, unsigned}
+use Rattle.decimal.specs.Decimal.{decimal, withoutSign}
 use Rattle.decimal.specs.Places.{shortOf, shortDecimal}
-use Rattle.gsa.specs.Many.{many, skip, takeWhile1, eof, allConsuming, oneOf3}
+use Rattle.text.specs.Many.{many, skip, takeWhile1, eof, allConsuming, oneOf3}
 use Rattle.text.specs.Value.{Value, syntax, fault, is, value}
 use Rattle.gsa.specs.System.{gps, beidou, galileo, named, settle, absent, is as settled, mismatch}
 use Rattle.gsa.specs.Gsa.{Gsa, Dops, lastSystem, emptyTail, item, prnFields, dop, dops, afterComma, optSystem, fullTail, gsa}
@@ -20,7 +20,7 @@ says t = value (gsa (bytes t))
 
 -- three dilutions with one decimal each
 abbrev tenths : ℕ → ℕ → ℕ → Option Dops
-tenths p h v = some (record { pdop = shortOf (unsigned p 1); hdop = shortOf (unsigned h 1); vdop = shortOf (unsigned v 1) })
+tenths p h v = some (record { pdop = shortOf (withoutSign p 1); hdop = shortOf (withoutSign h 1); vdop = shortOf (withoutSign v 1) })
 
 -- a sentence of the mode A
 abbrev automatic : ℕ → List ℕ → Option Dops → Option ℕ → Value Gsa

@@ -61,13 +61,13 @@ dopAt NoDop = unread
 dopAt NotDop = refused Number
 dopAt (ADop d p) = upto (aShort d) p
 
-abbrev pub three : ShortDecimal → ShortDecimal → ShortDecimal → Dops
-three p h v = record { pdop = aShort p; hdop = aShort h; vdop = aShort v }
+abbrev pub threeDops : ShortDecimal → ShortDecimal → ShortDecimal → Dops
+threeDops p h v = record { pdop = aShort p; hdop = aShort h; vdop = aShort v }
 
 abbrev pub dopsAt : DopsAt → Placed Dops
 dopsAt NoDops = unread
 dopsAt NotDops = refused Number
-dopsAt (DopsAre d e f p) = upto (three d e f) p
+dopsAt (DopsAre d e f p) = upto (threeDops d e f) p
 
 -- 18 cells that hold these satellites, and zero in each cell after them
 abbrev pub row : List ℕ → List ℕ
@@ -84,14 +84,14 @@ prnsAt r = upto (take (r .count) (r .satellites)) (r .at)
 abbrev pub tailed : List ℕ → TailAnswer → Placed Tail
 tailed xs NoTail = unread
 tailed xs NotTail = refused Number
-tailed xs (ATail d e f v p) = upto (record { satellites = xs; dops = some (three d e f); system = system v }) p
+tailed xs (ATail d e f v p) = upto (record { satellites = xs; dops = some (threeDops d e f); system = system v }) p
 
 abbrev pub tailAt : TailRead → Placed Tail
 tailAt r = tailed (take (r .count) (r .satellites)) (r .answer)
 
 abbrev pub dopsOf : Three → Option Dops
 dopsOf NoThree = none
-dopsOf (ThreeAre d e f) = some (three d e f)
+dopsOf (ThreeAre d e f) = some (threeDops d e f)
 
 abbrev pub gsaOf : List ℕ → GsaHead → Gsa
 gsaOf xs h = record { mode = h .mode; fix = h .fix; satellites = xs; dops = dopsOf (h .dops); system = system (h .system) }

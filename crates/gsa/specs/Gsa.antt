@@ -4,10 +4,10 @@ use mathlib.Core.List.{List, [], _∷_}
 use mathlib.Core.Option.{Option, none, some}
 use lib.ListN.{take}
 use Rattle.text.specs.Bytes.{byte}
-use Rattle.text.specs.Reader.{Reader, _>>=_, _>>_, pure, opt, alt, orMiss, char, oneOf}
+use Rattle.text.specs.Reader.{Reader, pure, opt, alt, orMiss, char, oneOf, _>>=_, _>>_}
 use Rattle.text.specs.Number.{number}
 use Rattle.decimal.specs.Places.{Short, shortDecimal}
-use Rattle.gsa.specs.Many.{many0, takeWhile1, allConsuming, oneOf3}
+use Rattle.text.specs.Many.{many0, takeWhile1, allConsuming, oneOf3}
 use Rattle.gsa.specs.System.{known}
 
 -- how far the satellites' places in the sky spread an error: in space, on the ground, in height

@@ -1,4 +1,3 @@
-pub mod Many
 pub mod System
 pub mod Gsa
 pub mod Answer

@@ -4,7 +4,7 @@ ghost use mathlib.Core.Path.{_≡_};
 ghost use Rattle.text.specs.Bytes.{byte};
 ghost use Rattle.text.specs.Placed.{Reads};
 ghost use Rattle.text.specs.Answer.{next, lettered, held};
-ghost use Rattle.gsa.specs.Many.{takeWhile1, oneOf3};
+ghost use Rattle.text.specs.Many.{takeWhile1, oneOf3};
 ghost use Rattle.text.specs.Value.{value};
 ghost use Rattle.gsa.specs.System.{known, named, settle};
 ghost use Rattle.gsa.specs.Gsa.{ifKnown, lastSystem, emptyTail, item, prnFields, dop, dops, optSystem, fullTail, gsa};

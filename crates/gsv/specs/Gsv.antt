@@ -13,8 +13,18 @@ use Prim.Native.Nat.{ℕ}
 use mathlib.Core.List.{List, [], _∷_}
 use mathlib.Core.Option.{Option, none, some}
 use Rattle.text.specs.Bytes.{byte}
-use Rattle.text.specs.Reader.{got, Reader, _>>=_, _>>_, pure, opt, char}
+use Rattle.text.specs.Reader.{got, Reader, pure, opt, char, _>>=_, _>>_}
 use Rattle.text.specs.Number.{number}
+
+-- the most that a line can say: n, number and in-view count are u16, a satellite's number u32, the rest of an entry i32
+abbrev pub countMax : ℕ
+countMax = 65535
+
+abbrev pub idMax : ℕ
+idMax = 4294967295
+
+abbrev pub placeMax : ℕ
+placeMax = 2147483647
 
 -- a satellite in view; what may be absent is a whole number too
 pub record Satellite : Type 0 where
@@ -42,13 +52,13 @@ cell max = do
   char (byte ",")
   pure n
 
--- parse_gsv_sat_info: the greatest u32, and three times the greatest i32
+-- parse_gsv_sat_info
 unfoldable pub entry : Reader Satellite
 entry = do
-  id ← counted 4294967295
-  elevation ← cell 2147483647
-  azimuth ← cell 2147483647
-  signal ← opt (number 2147483647)
+  id ← counted idMax
+  elevation ← cell placeMax
+  azimuth ← cell placeMax
+  signal ← opt (number placeMax)
   closing
   pure (record { id = id; elevation = elevation; azimuth = azimuth; signal = signal })
 
@@ -63,12 +73,12 @@ pub record Gsv : Type 0 where
   pub third : Option Satellite
   pub fourth : Option Satellite
 
--- do_parse_gsv: three times the greatest u16
+-- do_parse_gsv
 unfoldable pub gsv : Reader Gsv
 gsv = do
-  count ← counted 65535
-  index ← counted 65535
-  view ← counted 65535
+  count ← counted countMax
+  index ← counted countMax
+  view ← counted countMax
   first ← opt entry
   second ← opt entry
   third ← opt entry

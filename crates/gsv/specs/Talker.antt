@@ -1,7 +1,7 @@
 -- The talkers of GSV and their systems. 01: "The talker decides before the body: GA, GP, GL, BD or GB, GI, and GQ, PQ or QZ
 -- (QZSS); else 7."
 use Prim.Native.Nat.{ℕ}
-use mathlib.Core.Bool.{Bool, cond, _&&_}
+use mathlib.Core.Bool.{cond, _&&_}
 use mathlib.Core.Option.{Option, none, some}
 use mathlib.Core.List.{List, [], _∷_}
 use lib.Dec.{eqb}

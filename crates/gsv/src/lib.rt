@@ -4,7 +4,7 @@ ghost use mathlib.Core.Path.{_≡_};
 ghost use Rattle.text.specs.Reader.{opt};
 ghost use Rattle.text.specs.Placed.{Reads};
 ghost use Rattle.text.specs.Value.{value};
-ghost use Rattle.text.specs.Answer.{whole, next};
+ghost use Rattle.text.specs.Answer.{wholeAt, next};
 ghost use Rattle.gsv.specs.Talker.{systemOf};
 ghost use Rattle.gsv.specs.Gsv.{closing, counted, cell, entry, gsv};
 ghost use Rattle.gsv.specs.Answer.{talker, inCell, entryAt, slotAt, gsvRead};
@@ -93,7 +93,7 @@ fn closing(s: &[u8], at: usize) -> Next
 
 // A number with its comma.
 fn counted(s: &[u8], at: usize, max: u32) -> Whole
-    ensures { λ r. ⌜ Reads (now (s .entry)) at (counted max) (whole r) × (now (s .exit) ≡ now (s .entry)) ⌝ }
+    ensures { λ r. ⌜ Reads (now (s .entry)) at (counted max) (wholeAt r) × (now (s .exit) ≡ now (s .entry)) ⌝ }
 {
     let Whole::Is(v, at) = text::number(s, at, max) else {
         return Whole::No;

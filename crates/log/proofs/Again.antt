@@ -3,16 +3,14 @@
 use Prim.Native.Nat.{ℕ, zero, suc, _+_, _-_, _≤_, _<_}
 use native.Mathlib.Omega.{arith}
 use mathlib.Core.Path.{_≡_, refl, ap, sym, _∙_}
-use mathlib.Core.Logic.{_⊎_, inl, inr, ⊎-elim}
+use mathlib.Core.Logic.{_⊎_, ⊎-elim}
 use mathlib.Core.List.{List}
-use mathlib.Core.Bool.{Bool, true, false}
-use borrow.Author.Tests.{ltb-true, ltb-false}
-use lib.Dec.{ltb}
+use mathlib.Core.Bool.{true}
 use lib.ListN.{length}
 use Rattle.lines.specs.Places.{isPlace}
 use Rattle.lines.proofs.Next.{next-place}
 use Rattle.gather.specs.declared.table.Gatherer.{Gatherer}
-use Rattle.log.specs.Step.{longest, Stepped, stepOf}
+use Rattle.log.specs.Step.{longest, Stepped}
 use Rattle.log.specs.Walk.{Going, counted, onward, steps, begin, gone, walkOf}
 use Rattle.log.proofs.Places.{place-within}
 use Rattle.log.proofs.OneStep.{at-end, good-place}

@@ -3,11 +3,11 @@
 use Prim.Native.Nat.{ℕ, suc, _+_, _≤_, _<_}
 use native.Mathlib.Omega.{arith}
 use mathlib.Core.Path.{_≡_, refl, ap, sym, _∙_}
-use mathlib.Core.Logic.{_⊎_, inl, inr, _↔_}
+use mathlib.Core.Logic.{_⊎_, _↔_}
 use mathlib.Core.List.{List, [], _∷_, _++_, map, map-append}
 use mathlib.Core.Bool.{true}
 use mathlib.Core.Option.{some}
-use lib.ListN.{length, take, drop, getD, set, length-append, length-map, length-set, List·getD-append}
+use lib.ListN.{length, take, drop, getD, set, length-append, length-set}
 use lib.Seq.{getD-append-add}
 use Rattle.text.specs.Bytes.{byte}
 use Rattle.frame.specs.Refused.{Refused}

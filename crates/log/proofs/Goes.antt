@@ -32,7 +32,7 @@ use Rattle.log.specs.declared.walk.Counts.{Counts}
 use Rattle.log.specs.declared.walk.Sort.{Sort}
 use Rattle.log.specs.Line.{Said, blank, read, saidOf, gsvOf, gathers}
 use Rattle.log.specs.Step.{Stepped}
-use Rattle.log.specs.Walk.{one, isBlank, isAccepted, isRefusal, isHanded, tallied, grouped, Going, counted, onward, steps, begin}
+use Rattle.log.specs.Walk.{onceIf, isBlank, isAccepted, isRefusal, isHanded, tallied, grouped, Going, counted, onward, steps, begin}
 use Rattle.log.specs.Answer.{saidIn, foundIn, SaysHere}
 use Rattle.log.specs.Code.{sortOf, talliedBy, Within}
 use Rattle.log.proofs.Places.{place-within}
@@ -81,7 +81,7 @@ pub record Fit (log : List ℕ) (c : Counts) : Type 0 where
   pub handed : c .groups ≤ c .lines
 
 -- a line is blank, accepted or refused
-pub one-of-three : (s : Said) → one (isBlank s) + one (isAccepted s) + one (isRefusal s) ≡ 1
+pub one-of-three : (s : Said) → onceIf (isBlank s) + onceIf (isAccepted s) + onceIf (isRefusal s) ≡ 1
 one-of-three blank = refl
 one-of-three (read (isRmc r)) = refl
 one-of-three (read (isGsa g)) = refl

@@ -1,15 +1,14 @@
 -- 01, demand 1: "a refusal hands back no record and no group; .. the gatherer stand[s] as before". A step changes the gatherer at an accepted
 -- GSV line alone. Assumes nothing.
 use Prim.Native.Nat.{ℕ}
-use native.Mathlib.Omega.{arith}
-use mathlib.Core.Path.{_≡_, refl, ap, sym, _∙_}
+use mathlib.Core.Path.{_≡_, refl, ap}
 use mathlib.Core.List.{List}
 use mathlib.Core.Bool.{Bool, true, false, cond}
-use mathlib.Core.Option.{Option, none, some}
+use mathlib.Core.Option.{none}
 use lib.Dec.{eqb, ltb}
 use lib.ListN.{length}
 use Rattle.frame.specs.Refused.{Refused, logTooLong, badPlace}
-use Rattle.sentence.specs.Sentence.{GsvSentence, isRefused}
+use Rattle.sentence.specs.Sentence.{isRefused}
 use Rattle.lines.specs.Places.{isPlace, lineAt, nextPlace}
 use Rattle.gather.specs.declared.table.Gatherer.{Gatherer}
 use Rattle.log.specs.Line.{Said, blank, read, saidOf, gsvOf, untouched, gathers}

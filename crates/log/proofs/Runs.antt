@@ -3,12 +3,12 @@ use Prim.Native.Nat.{ℕ, _+_, _≤_, _<_}
 use native.Mathlib.Omega.{arith}
 use mathlib.Core.Path.{_≡_, refl, ap, sym, _∙_}
 use mathlib.Core.List.{List, []}
-use mathlib.Core.Bool.{Bool, true, false, not, _&&_, and-false}
+use mathlib.Core.Bool.{Bool, true, false, not, _&&_, and-false, cond}
 use mathlib.Core.Option.{Option, none, some}
 use borrow.Author.Tests.{eq-eqb, ne-eqb, le-leb, lt-leb, leb-true, not-true, not-false}
 use lib.Dec.{eqb, leb}
 use Rattle.groups.specs.Log.{Gsv}
-use Rattle.groups.specs.Step.{Open, pick, goesOn, onward, sofar, taken}
+use Rattle.groups.specs.Step.{Open, goesOn, onward, sofar, taken}
 use Rattle.gsv.specs.Gsv.{Satellite}
 use Rattle.rows.specs.Line.{lineOf}
 use Rattle.rows.specs.Leave.{Stands}
@@ -53,7 +53,7 @@ module _ (run : Run) (s : GsvSentence) where
           early = λ z. omega (arith, one);
         }
       where
-        begun : (b : Bool) → isRun (pick b (some []) none) ≡ b
+        begun : (b : Bool) → isRun (cond b (some []) none) ≡ b
         begun true = refl
         begun false = refl
 
@@ -64,8 +64,8 @@ module _ (run : Run) (s : GsvSentence) where
 
     -- what goes on with a run that stands has its numbers
     stays : (o : Open Satellite) (b : Bool) → goesOn o g ≡ b → isRun (onward (some o) g) ≡ b
-    stays o true e = ap (λ (c : Bool). isRun (pick c (some (o .sats)) none)) e
-    stays o false e = ap (λ (c : Bool). isRun (pick c (some (o .sats)) none)) e
+    stays o true e = ap (λ (c : Bool). isRun (cond c (some (o .sats)) none)) e
+    stays o false e = ap (λ (c : Bool). isRun (cond c (some (o .sats)) none)) e
 
     breaks : ((o : Open Satellite) → runOf (some o) ≡ run → Stands (some o) → goesOn o g ≡ false) → Follows run s false
     breaks h = record { right = λ x t e. ap isRun (on x) ∙ go x t e; early = λ z. absurd (never z) }

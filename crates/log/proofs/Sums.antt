@@ -1,5 +1,5 @@
 -- A walk's totals are counts of the log's lines: each step counts the line that it answers. Assumes nothing.
-use Prim.Native.Nat.{ℕ, zero, suc, _+_, _-_, _≤_, _<_, min}
+use Prim.Native.Nat.{ℕ, zero, suc, _+_, _-_, _≤_, _<_}
 use native.Mathlib.Omega.{arith}
 use mathlib.Core.Path.{_≡_, refl, ap, sym, _∙_}
 use mathlib.Core.Logic.{_⊎_, inl, inr, ⊎-elim}
@@ -17,8 +17,8 @@ use Rattle.log.specs.declared.walk.Counts.{Counts}
 use Rattle.frame.specs.Refused.{logTooLong, badPlace}
 use Rattle.log.specs.Line.{Said, saidOf, gsvOf, gathers}
 use Rattle.log.specs.Step.{longest, end, idle, stepOf}
-use Rattle.log.specs.Walk.{one, isBlank, isAccepted, isRefusal, isHanded, tallied, grouped, Going, begin, Walk, barred, went, gone, walkOf}
-use Rattle.log.specs.Totals.{count, gathered, groupsOf, behind, said, totals}
+use Rattle.log.specs.Walk.{onceIf, isBlank, isAccepted, isRefusal, isHanded, tallied, grouped, Going, begin, barred, went, gone, walkOf}
+use Rattle.log.specs.Totals.{howMany, gathered, groupsOf, behind, said, totals}
 use Rattle.log.proofs.Places.{place-within, place-end}
 use Rattle.log.proofs.OneStep.{at-end, good-place}
 use Rattle.log.proofs.Goes.{going, going-next, goOn, go-none, go-end, go-more, one-of-three}
@@ -29,9 +29,9 @@ onTop w ss next =
     record {
       counts = record {
         lines = w .counts .lines + length ss;
-        blank = w .counts .blank + count isBlank ss;
-        accepted = w .counts .accepted + count isAccepted ss;
-        refused = w .counts .refused + count isRefusal ss;
+        blank = w .counts .blank + howMany isBlank ss;
+        accepted = w .counts .accepted + howMany isAccepted ss;
+        refused = w .counts .refused + howMany isRefusal ss;
         groups = w .counts .groups + groupsOf (w .gatherer) ss;
         next = next;
       };
@@ -69,7 +69,7 @@ grouped-is : (c : Counts) (b : Bool)
       blank = c .blank;
       accepted = c .accepted;
       refused = c .refused;
-      groups = c .groups + one b;
+      groups = c .groups + onceIf b;
       next = c .next;
     }
 grouped-is c true = refl
@@ -88,14 +88,14 @@ one-more : (x y : ℕ) → x + 1 + y ≡ x + suc y
 one-more x y = omega arith
 
 -- one line, and then others
-onTop-more : (w : Going) (s : Said) (b : Bool) (g : Gatherer) (p q : ℕ) (ss : List Said) (k : ℕ) → one b + groupsOf g ss ≡ k
+onTop-more : (w : Going) (s : Said) (b : Bool) (g : Gatherer) (p q : ℕ) (ss : List Said) (k : ℕ) → onceIf b + groupsOf g ss ≡ k
     → onTop (record { counts = grouped (tallied (w .counts) s p) b; gatherer = g }) ss q
     ≡ record {
       counts = record {
         lines = w .counts .lines + suc (length ss);
-        blank = w .counts .blank + (one (isBlank s) + count isBlank ss);
-        accepted = w .counts .accepted + (one (isAccepted s) + count isAccepted ss);
-        refused = w .counts .refused + (one (isRefusal s) + count isRefusal ss);
+        blank = w .counts .blank + (onceIf (isBlank s) + howMany isBlank ss);
+        accepted = w .counts .accepted + (onceIf (isAccepted s) + howMany isAccepted ss);
+        refused = w .counts .refused + (onceIf (isRefusal s) + howMany isRefusal ss);
         groups = w .counts .groups + k;
         next = q;
       };
@@ -107,10 +107,10 @@ onTop-more w s b g p q ss k e =
     record {
       counts = record {
         lines = one-more (w .counts .lines) (length ss) i;
-        blank = assoc (w .counts .blank) (one (isBlank s)) (count isBlank ss) i;
-        accepted = assoc (w .counts .accepted) (one (isAccepted s)) (count isAccepted ss) i;
-        refused = assoc (w .counts .refused) (one (isRefusal s)) (count isRefusal ss) i;
-        groups = (assoc (w .counts .groups) (one b) (groupsOf g ss) ∙ ap (λ (x : ℕ). w .counts .groups + x) e) i;
+        blank = assoc (w .counts .blank) (onceIf (isBlank s)) (howMany isBlank ss) i;
+        accepted = assoc (w .counts .accepted) (onceIf (isAccepted s)) (howMany isAccepted ss) i;
+        refused = assoc (w .counts .refused) (onceIf (isRefusal s)) (howMany isRefusal ss) i;
+        groups = (assoc (w .counts .groups) (onceIf b) (groupsOf g ss) ∙ ap (λ (x : ℕ). w .counts .groups + x) e) i;
         next = q;
       };
       gatherer = gathered g ss;
@@ -184,9 +184,9 @@ module _ (log : List ℕ) (short : length log ≤ longest) where
       record {
         counts = record {
           lines = zero-plus (length ss) i;
-          blank = zero-plus (count isBlank ss) i;
-          accepted = zero-plus (count isAccepted ss) i;
-          refused = zero-plus (count isRefusal ss) i;
+          blank = zero-plus (howMany isBlank ss) i;
+          accepted = zero-plus (howMany isAccepted ss) i;
+          refused = zero-plus (howMany isRefusal ss) i;
           groups = zero-plus (groupsOf g ss) i;
           next = place log p n;
         };
@@ -194,7 +194,7 @@ module _ (log : List ℕ) (short : length log ≤ longest) where
       })
 
 -- THE THEOREM: every line of a list is blank, accepted or refused, and only one of them
-pub every-line : (ss : List Said) → count isBlank ss + count isAccepted ss + count isRefusal ss ≡ length ss
+pub every-line : (ss : List Said) → howMany isBlank ss + howMany isAccepted ss + howMany isRefusal ss ≡ length ss
 every-line [] = refl
 every-line (s ∷ ss) = let e = one-of-three s in let ih = every-line ss in omega arith
 

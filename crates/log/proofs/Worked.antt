@@ -3,19 +3,18 @@ use Prim.Native.Nat.{ℕ, _+_}
 use mathlib.Core.Path.{_≡_, refl}
 use mathlib.Core.List.{List, [], _∷_, _++_, map}
 use mathlib.Core.Option.{Option, none, some}
-use lib.ListN.{length}
 use Rattle.utf8.specs.Utf8.{follow, step as utf8Step, after, ascii}
-use Rattle.text.specs.Bytes.{byte, bytes}
+use Rattle.text.specs.Bytes.{bytes}
 use Rattle.text.specs.Reader.{_>>=_, pure, opt, alt, orMiss, char, oneOf, among, letterOf, until}
 use Rattle.text.specs.Number.{number, numberFrom}
 use Rattle.frame.specs.Refused.{badPlace}
-use Rattle.frame.specs.Types.{types, alike, among as listed}
+use Rattle.frame.specs.Types.{types, alike, listed}
 use Rattle.frame.specs.Checksum.{checksumFrom}
 use Rattle.frame.specs.Digits.{digit, hex}
 use Rattle.frame.specs.Frame.{taken, known, sentenceType, checksumField, sentence, sized, frame}
 use Rattle.gsv.specs.Talker.{among as rowOf}
 use Rattle.gsv.specs.Gsv.{Satellite, gsv, entry, counted, cell, closing}
-use Rattle.gsa.specs.Many.{many, skip, takeWhile1, eof, allConsuming, oneOf3}
+use Rattle.text.specs.Many.{many, skip, takeWhile1, eof, allConsuming, oneOf3}
 use Rattle.gsa.specs.Gsa.{gsa, emptyTail, lastSystem, fullTail, prnFields, item, dop, dops, afterComma as systemAfterComma, optSystem}
 use Rattle.sentence.specs.Sentence.{dispatch, answer}
 use Rattle.groups.specs.Log.{Handed}
@@ -27,7 +26,7 @@ use Rattle.short.specs.Digits.{digitsOf, digitsFor}
 use Rattle.short.specs.Texts.{entryText}
 use Rattle.gather.specs.Table.{freshGatherer}
 use Rattle.log.specs.Step.{refused, end, stepAt, stepOf}
-use Rattle.log.specs.Walk.{steps, Walk, barred, went, Walked, walkOf}
+use Rattle.log.specs.Walk.{steps, barred, went, Walked, walkOf}
 use Rattle.log.specs.Told.{told}
 use Rattle.log.specs.declared.walk.Counts.{Counts}
 

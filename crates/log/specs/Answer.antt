@@ -9,8 +9,6 @@ use Rattle.gsa.specs.Answer.{row}
 use Rattle.sentence.specs.Sentence.{GsvSentence}
 use Rattle.sentence.specs.Answer.{recordOf, satellitesOf, gsvSentence}
 use Rattle.lines.specs.Places.{lineAt, nextPlace}
-use Rattle.gather.specs.declared.table.Gatherer.{Gatherer}
-use Rattle.gather.specs.declared.table.Gathered.{Gathered}
 use Rattle.log.specs.Line.{Said, blank, read, saidOf}
 use Rattle.log.specs.Step.{Step, refused, end, line, Stepped}
 use Rattle.log.specs.Walk.{Walk, barred, went, Walked}

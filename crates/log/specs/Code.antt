@@ -7,7 +7,7 @@ use mathlib.Core.Option.{Option, none, some}
 use lib.ListN.{length, take, drop}
 use Rattle.gsa.specs.Answer.{row}
 use Rattle.sentence.specs.Sentence.{isRmc, isGsa, isGsv, isOther, isRefused, GsvSentence}
-use Rattle.text.specs.Bytes.{byte}
+use Rattle.lines.specs.Lines.{lineFeed}
 use Rattle.lines.specs.Places.{lineAt, stretch}
 use Rattle.groups.specs.Step.{Open, Out, sofar, step}
 use Rattle.gsv.specs.Gsv.{Satellite}
@@ -33,7 +33,7 @@ pub record CutAt (log : List ℕ) (p r : ℕ) : Type 0 where
 
 -- none was seen only where none is
 abbrev pub Saw : Bool → ℕ → Bool → Type 0
-Saw feed b r = r ≡ false → (feed ≡ false) × (b ≡ byte "\n" → ⊥)
+Saw feed b r = r ≡ false → (feed ≡ false) × (b ≡ lineFeed → ⊥)
 
 -- and then the line goes on behind these n bytes
 abbrev pub Clear : List ℕ → ℕ → ℕ → Bool → Type 0

@@ -7,12 +7,12 @@ use Rattle.lines.specs.Lines.{lines}
 use Rattle.lines.specs.Places.{rest}
 use Rattle.gather.specs.declared.table.Gatherer.{Gatherer}
 use Rattle.log.specs.Line.{Said, saidOf, gsvOf, gathers}
-use Rattle.log.specs.Walk.{one, isBlank, isAccepted, isRefusal, isHanded, Going}
+use Rattle.log.specs.Walk.{onceIf, isBlank, isAccepted, isRefusal, isHanded, Going}
 
 -- how many of them pass a test
-abbrev pub count : (Said → Bool) → List Said → ℕ
-count t [] = 0
-count t (s ∷ ss) = one (t s) + count t ss
+abbrev pub howMany : (Said → Bool) → List Said → ℕ
+howMany t [] = 0
+howMany t (s ∷ ss) = onceIf (t s) + howMany t ss
 
 -- the gatherer after some lines
 abbrev pub gathered : Gatherer → List Said → Gatherer
@@ -22,7 +22,7 @@ gathered g (s ∷ ss) = gathered (gathers g (gsvOf s) .gatherer) ss
 -- how many of them hand out a group
 abbrev pub groupsOf : Gatherer → List Said → ℕ
 groupsOf g [] = 0
-groupsOf g (s ∷ ss) = one (isHanded (gathers g (gsvOf s) .handed)) + groupsOf (gathers g (gsvOf s) .gatherer) ss
+groupsOf g (s ∷ ss) = onceIf (isHanded (gathers g (gsvOf s) .handed)) + groupsOf (gathers g (gsvOf s) .gatherer) ss
 
 -- what is left of a text behind its first k lines
 abbrev pub behind : ℕ → List ℕ → List ℕ
@@ -39,9 +39,9 @@ totals log p n g =
     record {
       counts = record {
         lines = length (said log p n);
-        blank = count isBlank (said log p n);
-        accepted = count isAccepted (said log p n);
-        refused = count isRefusal (said log p n);
+        blank = howMany isBlank (said log p n);
+        accepted = howMany isAccepted (said log p n);
+        refused = howMany isRefusal (said log p n);
         groups = groupsOf g (said log p n);
         next = length log - length (behind n (drop p log));
       };

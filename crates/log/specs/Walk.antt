@@ -1,6 +1,6 @@
 -- A walk: as many steps as it may take, or as there are lines left, counted.
 use Prim.Native.Nat.{ℕ, zero, suc, _+_, min}
-use mathlib.Core.List.{List, [], _∷_}
+use mathlib.Core.List.{List}
 use mathlib.Core.Bool.{Bool, true, false, cond}
 use lib.Dec.{ltb}
 use lib.ListN.{length, drop}
@@ -13,13 +13,13 @@ use Rattle.gather.specs.declared.table.Gathered.{Gathered}
 use Rattle.gather.specs.declared.table.Handed.{Handed}
 use Rattle.gather.specs.declared.table.Handed.the-variants.{Nothing, Of}
 use Rattle.log.specs.Line.{Said, blank, read}
-use Rattle.log.specs.Step.{longest, Step, refused, end, line, Stepped, stepOf}
+use Rattle.log.specs.Step.{longest, Step, refused, end, line, stepOf}
 use Rattle.log.specs.declared.walk.Counts.{Counts}
 
 -- a Bool as the number of times that it is so
-abbrev pub one : Bool → ℕ
-one true = 1
-one false = 0
+abbrev pub onceIf : Bool → ℕ
+onceIf true = 1
+onceIf false = 0
 
 -- "lines are blank, accepted or refused, each counted from the log"
 abbrev pub isBlank : Said → Bool
@@ -51,9 +51,9 @@ abbrev pub tallied : Counts → Said → ℕ → Counts
 tallied c said next =
     record {
       lines = c .lines + 1;
-      blank = c .blank + one (isBlank said);
-      accepted = c .accepted + one (isAccepted said);
-      refused = c .refused + one (isRefusal said);
+      blank = c .blank + onceIf (isBlank said);
+      accepted = c .accepted + onceIf (isAccepted said);
+      refused = c .refused + onceIf (isRefusal said);
       groups = c .groups;
       next = next;
     }

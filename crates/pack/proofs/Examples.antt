@@ -1,7 +1,7 @@
 -- Greedy packing at work, by computing: four entries at most go into a piece, and no more than the room.
 use Prim.Native.Nat.{ℕ}
 use mathlib.Core.Path.{_≡_, refl}
-use mathlib.Core.List.{List, [], _∷_}
+use mathlib.Core.List.{[], _∷_}
 use Rattle.pack.specs.Cut.{more, pieceCount}
 
 abbrev itself : ℕ → ℕ

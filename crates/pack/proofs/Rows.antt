@@ -1,29 +1,30 @@
 -- A row can be left by lines exactly where its entries can be cut into lines.
-use Prim.Native.Nat.{ℕ, zero, suc, _+_, _-_, _≤_}
+use Prim.Native.Nat.{ℕ, suc, _+_, _-_, _≤_}
 use native.Mathlib.Omega.{arith}
 use mathlib.Core.Path.{_≡_, refl, sym, ap, _∙_}
 use mathlib.Core.Logic.{_↔_}
-use mathlib.Core.List.{List, [], _∷_, _++_, append-assoc, append-nil}
-use mathlib.Core.Bool.{Bool, true, false, _&&_}
+use mathlib.Core.List.{List, [], _∷_, _++_, append-assoc, append-nil, flatten}
+use mathlib.Core.Bool.{Bool, true, false, _&&_, cond}
 use mathlib.Core.Option.{Option, none, some}
 use borrow.Author.Tests.{eqb-true, eqb-false, eq-eqb, ne-eqb, leb-true, le-leb}
 use lib.Dec.{eqb, leb}
 use lib.ListN.{length, length-append}
 use Rattle.groups.specs.Log.{Gsv, Group}
-use Rattle.groups.specs.Step.{Open, Out, pick, onward, sofar, taken, step}
+use Rattle.groups.specs.Step.{Open, Out, onward, sofar, taken, step}
 use Rattle.groups.specs.Left.{All, left, LeftBy}
-use Rattle.pack.specs.Cut.{joined, Cut}
+use Rattle.pack.specs.Cut.{Cut}
 use Rattle.pack.specs.Rows.{Packs}
-use Rattle.pack.proofs.Greedy.{all-append, joined-append}
+use Rattle.pack.proofs.Greedy.{all-append, flatten-append}
 
 -- a piece more
 one-more : {A : Type 0} (P : List A → Type 0) (i j : ℕ) (es p : List A) → Cut P i es → P p → j ≡ i + 1 → Cut P j (es ++ p)
+unfolding flatten
 one-more {A} P i j es p c h e =
     record {
       pieces = c .pieces ++ (p ∷ []);
       count = simp length-append (omega (arith, c .count));
       whole =
-          joined-append (c .pieces) (p ∷ [])
+          flatten-append (c .pieces) (p ∷ [])
           ∙ ap (λ (l : List A). l ++ (p ++ [])) (c .whole)
           ∙ ap (λ (l : List A). es ++ l) (append-nil p);
       each = all-append P (c .pieces) (p ∷ []) (c .each) (h, tt);
@@ -46,9 +47,10 @@ module _ {A : Type 0} (Q : Gsv A → Type 0) (R : ℕ → List A → Type 0) (do
   BeforeIf g (some es) = Before g es
 
   before : (r : Option (Open A)) (g : Gsv A) → Sound r → BeforeIf g (sofar r g)
+  unfolding flatten
   before r g s = by-number (eqb (g .number) 1) refl
     where
-      by-range : (a b : Bool) → leb 1 (g .n) ≡ a → leb (g .n) 9 ≡ b → g .number ≡ 1 → BeforeIf g (pick (a && b) (some []) none)
+      by-range : (a b : Bool) → leb 1 (g .n) ≡ a → leb (g .n) 9 ≡ b → g .number ≡ 1 → BeforeIf g (cond (a && b) (some []) none)
       by-range true true ea eb e1 =
           let h : 1 ≤ g .n = leb-true _ _ ea in
           let k : g .n ≤ 9 = leb-true _ _ eb in
@@ -62,7 +64,7 @@ module _ {A : Type 0} (Q : Gsv A → Type 0) (R : ℕ → List A → Type 0) (do
       by-range false b ea eb e1 = tt
 
       by-tests : (o : Open A) (a b c : Bool) → Packs R o → eqb (g .n) (o .n) ≡ a → eqb (g .number) (o .next) ≡ b → eqb (g .view) (o .view) ≡ c
-          → BeforeIf g (pick (a && (b && c)) (some (o .sats)) none)
+          → BeforeIf g (cond (a && (b && c)) (some (o .sats)) none)
       by-tests o true true true f ea eb ec =
           let en : g .n ≡ o .n = eqb-true _ _ ea in
           let ek : g .number ≡ o .next = eqb-true _ _ eb in
@@ -81,7 +83,7 @@ module _ {A : Type 0} (Q : Gsv A → Type 0) (R : ℕ → List A → Type 0) (do
       by-row none s = tt
       by-row (some o) s = by-tests o (eqb (g .n) (o .n)) (eqb (g .number) (o .next)) (eqb (g .view) (o .view)) s refl refl refl
 
-      by-number : (a : Bool) → eqb (g .number) 1 ≡ a → BeforeIf g (pick a (pick (leb 1 (g .n) && leb (g .n) 9) (some []) none) (onward r g))
+      by-number : (a : Bool) → eqb (g .number) 1 ≡ a → BeforeIf g (cond a (cond (leb 1 (g .n) && leb (g .n) 9) (some []) none) (onward r g))
       by-number true e1 = by-range (leb 1 (g .n)) (leb (g .n) 9) refl refl (eqb-true _ _ e1)
       by-number false e1 = by-row r s
 
@@ -104,7 +106,7 @@ module _ {A : Type 0} (Q : Gsv A → Type 0) (R : ℕ → List A → Type 0) (do
             cut = one-more (R (g .view)) (g .number - 1) (g .number + 1 - 1) es (g .sats) (b .cut) (down g q) (omega (arith, b .from));
           }
 
-      by-last : (a : Bool) → eqb (g .number) (g .n) ≡ a → Sound (pick {X = Out A} a (record { row = none; group = some p }) (record { row = some o; group = none }) .row)
+      by-last : (a : Bool) → eqb (g .number) (g .n) ≡ a → Sound (cond {A = Out A} a (record { row = none; group = some p }) (record { row = some o; group = none }) .row)
       by-last true e = tt
       by-last false e = fit (eqb-false _ _ e)
 
@@ -145,8 +147,8 @@ module _ {A : Type 0} (Q : Gsv A → Type 0) (R : ℕ → List A → Type 0) (do
 
     -- they go on with a run that waits for the first of them
     lines-leave : (n v k : ℕ) (acc : List A) (ps : List (List A)) → 2 ≤ k → k + length ps ≤ n
-        → left (standing n k v acc) (lines n v k ps) ≡ standing n (k + length ps) v (acc ++ joined ps)
-    unfolding lines
+        → left (standing n k v acc) (lines n v k ps) ≡ standing n (k + length ps) v (acc ++ flatten ps)
+    unfolding lines flatten
     lines-leave n v k acc [] low high =
         let z : k ≡ k + 0 = omega arith in
         ap (λ (i : ℕ). standing n i v acc) z ∙ ap (standing n (k + 0) v) (sym (append-nil acc))
@@ -154,18 +156,18 @@ module _ {A : Type 0} (Q : Gsv A → Type 0) (R : ℕ → List A → Type 0) (do
         let z : suc k + length ps ≡ k + suc (length ps) = omega arith in
         ap (λ (r : Option (Open A)). left r (lines n v (suc k) ps)) (on n v k acc p low (omega arith))
         ∙ lines-leave n v (suc k) (acc ++ p) ps (omega arith) (omega arith)
-        ∙ ap (λ (i : ℕ). standing n i v (acc ++ p ++ joined ps)) z
-        ∙ ap (standing n (k + suc (length ps)) v) (append-assoc acc p (joined ps))
+        ∙ ap (λ (i : ℕ). standing n i v (acc ++ p ++ flatten ps)) z
+        ∙ ap (standing n (k + suc (length ps)) v) (append-assoc acc p (flatten ps))
 
     -- the first line starts the run
-    run-leaves : (n v j : ℕ) (ps : List (List A)) → n ≤ 9 → length ps ≡ j → 1 ≤ j → suc j ≤ n → left none (lines n v 1 ps) ≡ standing n (suc j) v (joined ps)
-    unfolding lines
+    run-leaves : (n v j : ℕ) (ps : List (List A)) → n ≤ 9 → length ps ≡ j → 1 ≤ j → suc j ≤ n → left none (lines n v 1 ps) ≡ standing n (suc j) v (flatten ps)
+    unfolding lines flatten
     run-leaves n v j [] h e low high = absurd (omega arith)
     run-leaves n v j (p ∷ ps) h e low high =
         let z : 2 + length ps ≡ suc j = omega arith in
         ap (λ (r : Option (Open A)). left r (lines n v 2 ps)) (first n v p (omega arith) h)
         ∙ lines-leave n v 2 p ps (omega arith) (omega arith)
-        ∙ ap (λ (i : ℕ). standing n i v (p ++ joined ps)) z
+        ∙ ap (λ (i : ℕ). standing n i v (p ++ flatten ps)) z
 
     -- A ROW IS LEFT BY SOME LINES exactly where its entries can be cut into its lines
     pub left-by : (o : Open A) → LeftBy Q o ↔ Packs R o
@@ -179,7 +181,7 @@ module _ {A : Type 0} (Q : Gsv A → Type 0) (R : ℕ → List A → Type 0) (do
             given = lines-given (o .n) (o .view) 1 (c .pieces) (f .high) (omega (arith, c .count, f .begun, f .open', f .high)) (c .each);
             leaves =
                 run-leaves (o .n) (o .view) (o .next - 1) (c .pieces) (f .high) (c .count) (omega (arith, f .begun)) (omega (arith, f .begun, f .open'))
-                ∙ ap (λ (i : ℕ). standing (o .n) i (o .view) (joined (c .pieces))) z
+                ∙ ap (λ (i : ℕ). standing (o .n) i (o .view) (flatten (c .pieces))) z
                 ∙ ap (standing (o .n) (o .next) (o .view)) (c .whole);
           },
     )

@@ -1,23 +1,17 @@
 -- Entries cut, in order, into pieces of at most four, each of a weight that a line has room for.
 use Prim.Native.Nat.{ℕ, suc, _+_, _≤_}
 use mathlib.Core.Path.{_≡_}
-use mathlib.Core.List.{List, [], _∷_, _++_}
-use mathlib.Core.Bool.{Bool, true, false, _&&_}
+use mathlib.Core.List.{List, [], _∷_, flatten}
+use mathlib.Core.Bool.{Bool, _&&_, cond}
 use lib.Dec.{ltb, leb}
 use lib.ListN.{length}
-use Rattle.groups.specs.Step.{pick}
 use Rattle.groups.specs.Left.{All}
-
-module _ {A : Type 0} where
-  abbrev pub joined : List (List A) → List A
-  joined [] = []
-  joined (p ∷ ps) = p ++ joined ps
 
 -- es is cut into j pieces, each of which is P
 pub record Cut {A : Type 0} (P : List A → Type 0) (j : ℕ) (es : List A) : Type 0 where
   pub pieces : List (List A)
   pub count : length pieces ≡ j
-  pub whole : joined pieces ≡ es
+  pub whole : flatten pieces ≡ es
   pub each : All P pieces
 
 module _ {A : Type 0} (w : A → ℕ) where
@@ -26,15 +20,15 @@ module _ {A : Type 0} (w : A → ℕ) where
   weight (e ∷ es) = w e + weight es
 
   -- there is room for e behind c entries of weight u
-  abbrev pub fits : ℕ → ℕ → ℕ → A → Bool
-  fits room c u e = ltb c 4 && leb (u + w e) room
+  abbrev pub hasRoom : ℕ → ℕ → ℕ → A → Bool
+  hasRoom room c u e = ltb c 4 && leb (u + w e) room
 
   -- GREEDY: how many more pieces are begun, where the one at hand has c entries of weight u
   unfoldable pub more : ℕ → ℕ → ℕ → List A → ℕ
   more room c u [] = 0
   more room c u (e ∷ es) =
-      let t = fits room c u e in
-      pick t 0 1 + more room (pick t (suc c) 1) (pick t (u + w e) (w e)) es
+      let t = hasRoom room c u e in
+      cond t 0 1 + more room (cond t (suc c) 1) (cond t (u + w e) (w e)) es
 
   -- at first none is at hand
   abbrev pub pieceCount : ℕ → List A → ℕ

@@ -12,7 +12,7 @@ use Rattle.fields.specs.Time.{hms, clock, timed}
 use Rattle.fields.specs.Date.{date}
 use Rattle.fields.specs.Position.{side, latitude, longitude, doLatLon, commas, latLon}
 use Rattle.fields.specs.Variation.{doVariation, variation}
-use Rattle.rmc.specs.Rmc.{Motion, withComma, ifComma, afterComma, fix, motion, letters, ending, rmc}
+use Rattle.rmc.specs.Rmc.{Motion, withComma, ifComma, optLetter, fixPart, motion, letters, ending, rmc}
 
 abbrev nothing : Motion
 nothing = record { speed = none; course = none; date = none }
@@ -26,7 +26,7 @@ pub lone-letter :
       motion = nothing;
       ending = record { variation = none; letters = record { mode = none; status = none } };
     })
-unfolding rmc fix motion letters ending withComma ifComma afterComma hms clock timed date side latitude longitude doLatLon commas latLon doVariation variation shortDecimal longDecimal decimal fixed _>>=_ pure opt alt orMiss char oneOf among letterOf
+unfolding rmc fixPart motion letters ending withComma ifComma optLetter hms clock timed date side latitude longitude doLatLon commas latLon doVariation variation shortDecimal longDecimal decimal fixed _>>=_ pure opt alt orMiss char oneOf among letterOf
 lone-letter = refl
 
 -- an unknown mode letter is not eaten, so that no comma follows for the status
@@ -38,15 +38,15 @@ pub unknown-mode :
       motion = nothing;
       ending = record { variation = none; letters = record { mode = none; status = none } };
     })
-unfolding rmc fix motion letters ending withComma ifComma afterComma hms clock timed date side latitude longitude doLatLon commas latLon doVariation variation shortDecimal longDecimal decimal fixed _>>=_ pure opt alt orMiss char oneOf among letterOf
+unfolding rmc fixPart motion letters ending withComma ifComma optLetter hms clock timed date side latitude longitude doLatLon commas latLon doVariation variation shortDecimal longDecimal decimal fixed _>>=_ pure opt alt orMiss char oneOf among letterOf
 unknown-mode = refl
 
 -- Number at the speed, before the date that is none
 pub number-first : value (rmc (bytes ",A,,,,,x,,999999,,,")) ≡ fault Number
-unfolding rmc fix motion letters ending withComma ifComma afterComma hms clock timed date side latitude longitude doLatLon commas latLon doVariation variation shortDecimal longDecimal decimal fixed _>>=_ pure opt alt orMiss char oneOf among letterOf
+unfolding rmc fixPart motion letters ending withComma ifComma optLetter hms clock timed date side latitude longitude doLatLon commas latLon doVariation variation shortDecimal longDecimal decimal fixed _>>=_ pure opt alt orMiss char oneOf among letterOf
 number-first = refl
 
 -- Syntax at the status, before the speed that is no decimal
 pub syntax-first : value (rmc (bytes ",B,,,,,x,,,,,")) ≡ syntax
-unfolding rmc fix motion letters ending withComma ifComma afterComma hms clock timed date side latitude longitude doLatLon commas latLon doVariation variation shortDecimal longDecimal decimal fixed _>>=_ pure opt alt orMiss char oneOf among letterOf
+unfolding rmc fixPart motion letters ending withComma ifComma optLetter hms clock timed date side latitude longitude doLatLon commas latLon doVariation variation shortDecimal longDecimal decimal fixed _>>=_ pure opt alt orMiss char oneOf among letterOf
 syntax-first = refl

@@ -15,7 +15,7 @@ use Prim.Native.Nat.{ℕ}
 use mathlib.Core.List.{List}
 use mathlib.Core.Option.{Option, none, some}
 use Rattle.text.specs.Bytes.{byte, bytes}
-use Rattle.text.specs.Reader.{Reader, _>>=_, _>>_, pure, opt, char, letterOf}
+use Rattle.text.specs.Reader.{Reader, pure, opt, char, letterOf, _>>=_, _>>_}
 use Rattle.decimal.specs.Places.{Short, shortDecimal}
 use Rattle.fields.specs.Time.{Time, optHms}
 use Rattle.fields.specs.Date.{Date, optDate}
@@ -61,9 +61,9 @@ unfoldable pub ifComma : List ℕ → Option (Unit {0}) → Reader (Option ℕ)
 ifComma letters none = pure none
 ifComma letters (some u) = opt (letterOf letters)
 
--- "an optional comma; if there, an optional letter"
-unfoldable pub afterComma : List ℕ → Reader (Option ℕ)
-afterComma letters = do
+-- "an optional comma; if there, an optional mode letter", and so the status
+unfoldable pub optLetter : List ℕ → Reader (Option ℕ)
+optLetter letters = do
   comma ← opt (char (byte ","))
   ifComma letters comma
 
@@ -73,8 +73,8 @@ pub record Fix : Type 0 where
   pub status : ℕ
   pub position : Option LatLon
 
-unfoldable pub fix : Reader Fix
-fix = do
+unfoldable pub fixPart : Reader Fix
+fixPart = do
   time ← timePlace
   status ← statusPlace
   position ← positionPlace
@@ -98,8 +98,8 @@ pub record Letters : Type 0 where
 
 unfoldable pub letters : Reader Letters
 letters = do
-  mode ← afterComma modeLetters
-  status ← afterComma statusLetters
+  mode ← optLetter modeLetters
+  status ← optLetter statusLetters
   pure (record { mode = mode; status = status })
 
 pub record Ending : Type 0 where
@@ -120,7 +120,7 @@ pub record Rmc : Type 0 where
 
 unfoldable pub rmc : Reader Rmc
 rmc = do
-  f ← fix
+  f ← fixPart
   m ← motion
   e ← ending
   pure (record { fix = f; motion = m; ending = e })

@@ -4,7 +4,7 @@ ghost use mathlib.Core.Path.{_≡_};
 ghost use Rattle.text.specs.Placed.{Reads};
 ghost use Rattle.text.specs.Value.{value};
 ghost use Rattle.text.specs.Answer.{lettered};
-ghost use Rattle.rmc.specs.Rmc.{timePlace, statusPlace, positionPlace, shortPlace, datePlace, afterComma, fix, motion, letters, ending, rmc};
+ghost use Rattle.rmc.specs.Rmc.{timePlace, statusPlace, positionPlace, shortPlace, datePlace, optLetter, fixPart, motion, letters, ending, rmc};
 ghost use Rattle.rmc.specs.Answer.{timePlaceAt, positionPlaceAt, shortPlaceAt, datePlaceAt, letterAt, fixAt, motionAt, lettersAt, endingAt, rmcRead};
 use decimal::ShortAt;
 use decimal::ShortDecimal;
@@ -174,7 +174,7 @@ pub struct LetterField {
 
 // Where a comma stands, it is eaten, and one of `letters` after it.
 fn after_comma(s: &[u8], at: usize, letters: &[u8]) -> LetterField
-    ensures { λ r. ⌜ Reads (now (s .entry)) at (afterComma (now (letters .entry))) (letterAt r) × (now (s .exit) ≡ now (s .entry)) × (now (letters .exit) ≡ now (letters .entry)) ⌝ }
+    ensures { λ r. ⌜ Reads (now (s .entry)) at (optLetter (now (letters .entry))) (letterAt r) × (now (s .exit) ≡ now (s .entry)) × (now (letters .exit) ≡ now (letters .entry)) ⌝ }
 {
     let Next::At(next) = text::byte(s, at, b',') else {
         return LetterField {
@@ -209,7 +209,7 @@ pub enum FixAt {
 }
 
 fn fix_part(s: &[u8], at: usize) -> FixAt
-    ensures { λ r. ⌜ Reads (now (s .entry)) at fix (fixAt r) × (now (s .exit) ≡ now (s .entry)) ⌝ }
+    ensures { λ r. ⌜ Reads (now (s .entry)) at fixPart (fixAt r) × (now (s .exit) ≡ now (s .entry)) ⌝ }
 {
     match time_place(s, at) {
         TimePlace::No => FixAt::No,

@@ -1,18 +1,17 @@
 -- THE RULE ON LENT ROWS: the test is true exactly of the runs that accepted lines leave. Lines have room for what they hold, greedy
 -- packing finds a cut wherever there is one, and each piece of a cut is the text of a line. Assumes nothing.
-use Prim.Native.Nat.{ℕ, zero, suc, _-_, _*_, _≤_, _<_}
+use Prim.Native.Nat.{ℕ, zero, suc, _-_, _≤_, _<_}
 use native.Mathlib.Omega.{arith}
-use mathlib.Core.Path.{_≡_, refl, ap, subst}
+use mathlib.Core.Path.{_≡_, refl, subst}
 use mathlib.Core.Logic.{_↔_}
 use mathlib.Core.List.{List, [], _∷_}
 use mathlib.Core.Bool.{true, and-eq-true-iff}
 use mathlib.Core.Option.{Option, none, some}
-use lib.ListN.{length, length-append}
+use lib.ListN.{length}
 use borrow.Author.Tests.{le-leb, leb-true}
 use Rattle.text.specs.Bytes.{byte}
 use Rattle.groups.specs.Log.{Gsv}
 use Rattle.groups.specs.Step.{Open, step}
-use Rattle.groups.specs.Left.{All}
 use Rattle.gsv.specs.Talker.{System, beidou, galileo, gps, glonass, navic, qzss, among, systemOf}
 use Rattle.gsv.specs.Gsv.{Satellite}
 use Rattle.sentence.specs.Sentence.{GsvSentence, answer, isGsv}
@@ -20,13 +19,14 @@ use Rattle.short.specs.Texts.{Upto, Readable, AllReadable, bodyOf}
 use Rattle.short.specs.Room.{Room}
 use Rattle.short.proofs.Texts.{all-present}
 use Rattle.short.proofs.Line.{room, line-of}
-use Rattle.pack.specs.Cut.{joined, pieceCount}
+use Rattle.pack.specs.Cut.{pieceCount}
 use Rattle.pack.specs.Rows.{Packs}
+use Rattle.pack.proofs.Few.{four-each}
 use Rattle.pack.proofs.Greedy.{greedy}
 use Rattle.pack.proofs.Rows.{Sound, sound-step, left-by}
 use Rattle.rows.specs.Key.{keyOf, rowCount}
 use Rattle.rows.specs.Line.{lineOf}
-use Rattle.rows.specs.Leave.{Line, Leavable, upto, readable, allReadable, size, space, leavable, Stands}
+use Rattle.rows.specs.Leave.{Line, Leavable, upto, readable, allReadable, entrySize, space, leavable, Stands}
 use Rattle.rows.proofs.Fit.{alone, room-cut}
 
 -- the tests, one by one
@@ -70,7 +70,7 @@ pub record Passes (o : Open Satellite) : Type 0 where
   pub high : o .n ≤ 9
   pub view : o .view ≤ 65535
   pub each : allReadable (o .sats) ≡ true
-  pub packed : pieceCount size (space (o .view)) (o .sats) ≤ o .next - 1
+  pub packed : pieceCount entrySize (space (o .view)) (o .sats) ≤ o .next - 1
 
 pub passes : (o : Open Satellite) → (leavable o ≡ true) ↔ Passes o
 passes o = (
@@ -108,7 +108,7 @@ decides o = (
         high = p .high;
         view = v;
         each = all-readable-is (o .sats) .1 r;
-        packed = greedy size (space (o .view)) (o .next - 1) (o .sats) (alone (o .view) (o .sats) v r) .0 c;
+        packed = greedy entrySize (space (o .view)) (o .next - 1) (o .sats) (alone (o .view) (o .sats) v r) .0 c;
       }),
   λ e.
       let p = passes o .0 e in
@@ -121,7 +121,7 @@ decides o = (
             room-cut (o .view) (o .next - 1) (o .sats) (omega (arith, p .begun)) .1 (
               p .view,
               r,
-              greedy size (space (o .view)) (o .next - 1) (o .sats) (alone (o .view) (o .sats) (p .view) r) .1 (p .packed),
+              greedy entrySize (space (o .view)) (o .next - 1) (o .sats) (alone (o .view) (o .sats) (p .view) r) .1 (p .packed),
             );
       },
 )
@@ -191,17 +191,11 @@ stands-step r l h e s =
     let q : Accepted (lineOf h) = record { sentence = h; written = record { line = l; accepted = e }; says = refl; mine = refl } in
     sound-stands (step r (lineOf h) .row) (sound-step Accepted Room accepted-room r (lineOf h) (stands-sound r s) q)
 
--- pieces of four
-cut-few : (v : ℕ) (ps : List (List Satellite)) → All (Room v) ps → length (joined ps) ≤ 4 * length ps
-cut-few v [] p = omega arith
-cut-few v (q ∷ ps) p = simp length-append (omega (arith, p .0 .four, cut-few v ps (p .1)))
-
 -- at most eight lines have come, of four entries each
 pub few-entries : (o : Open Satellite) → leavable o ≡ true → length (o .sats) ≤ 36
 few-entries o e =
-    let p = decides o .1 e in
-    let c = p .cut in
-    omega (arith, ap length (c .whole), cut-few (o .view) (c .pieces) (c .each), c .count, p .begun, p .open', p .high)
+    let p = passes o .0 e in
+    omega (arith, four-each entrySize (space (o .view)) (o .sats), p .packed, p .begun, p .open', p .high)
 
 pub are-readable : (o : Open Satellite) → leavable o ≡ true → allReadable (o .sats) ≡ true
 are-readable o e = passes o .0 e .each

@@ -10,7 +10,7 @@ use Rattle.frame.specs.Frame.{maxLength}
 use Rattle.groups.specs.Log.{Gsv}
 use Rattle.groups.specs.Step.{Open}
 use Rattle.groups.specs.Left.{LeftBy}
-use Rattle.gsv.specs.Gsv.{Satellite}
+use Rattle.gsv.specs.Gsv.{countMax, idMax, placeMax, Satellite}
 use Rattle.sentence.specs.Sentence.{GsvSentence}
 use Rattle.short.specs.Digits.{digitsOf}
 use Rattle.short.specs.Texts.{entryText}
@@ -36,15 +36,15 @@ upto max (some n) = leb n max
 
 abbrev pub readable : Satellite → Bool
 readable s =
-    leb (s .id) 4294967295 && (upto 2147483647 (s .elevation) && (upto 2147483647 (s .azimuth) && upto 2147483647 (s .signal)))
+    leb (s .id) idMax && (upto placeMax (s .elevation) && (upto placeMax (s .azimuth) && upto placeMax (s .signal)))
 
 abbrev pub allReadable : List Satellite → Bool
 allReadable [] = true
 allReadable (s ∷ ss) = readable s && allReadable ss
 
 -- an entry's bytes, with one for a comma
-abbrev pub size : Satellite → ℕ
-size s = length (entryText s) + 1
+abbrev pub entrySize : Satellite → ℕ
+entrySize s = length (entryText s) + 1
 
 -- what a line has left for its entries, and one more, since the last needs no comma
 abbrev pub space : ℕ → ℕ
@@ -56,7 +56,7 @@ leavable o =
     leb 2 (o .next)
     && (leb (o .next) (o .n)
     && (leb (o .n) 9
-    && (leb (o .view) 65535 && (allReadable (o .sats) && leb (pieceCount size (space (o .view)) (o .sats)) (o .next - 1)))))
+    && (leb (o .view) countMax && (allReadable (o .sats) && leb (pieceCount entrySize (space (o .view)) (o .sats)) (o .next - 1)))))
 
 -- of a row that may be empty
 abbrev pub Stands : Option (Open Satellite) → Type 0

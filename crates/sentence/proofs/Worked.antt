@@ -11,22 +11,22 @@ use Rattle.utf8.specs.Utf8.{follow, step, after, ascii}
 use Rattle.text.specs.Bytes.{byte, bytes}
 use Rattle.text.specs.Reader.{_>>=_, pure, opt, alt, orMiss, char, oneOf, among, letterOf, until}
 use Rattle.text.specs.Number.{number, numberFrom, fixed}
-use Rattle.decimal.specs.Decimal.{decimal, unsigned}
+use Rattle.decimal.specs.Decimal.{decimal, withoutSign}
 use Rattle.decimal.specs.Places.{Short, shortOf, shortDecimal, longDecimal}
 use Rattle.fields.specs.Time.{hms, clock, timed}
 use Rattle.fields.specs.Date.{date}
 use Rattle.fields.specs.Position.{degreesOf, side, latitude, longitude, doLatLon, commas, latLon}
 use Rattle.fields.specs.Variation.{doVariation, variation}
 use Rattle.frame.specs.Refused.{badUtf8, notAscii, tooLong, syntaxError, badChecksum}
-use Rattle.frame.specs.Types.{types, alike, among as listed}
+use Rattle.frame.specs.Types.{types, alike, listed}
 use Rattle.frame.specs.Checksum.{checksumFrom}
 use Rattle.frame.specs.Digits.{digit, hex}
 use Rattle.frame.specs.Frame.{taken, known, sentenceType, checksumField, sentence, sized, frame}
 use Rattle.gsv.specs.Talker.{gps, among as rowOf}
 use Rattle.gsv.specs.Gsv.{Satellite, gsv, entry, counted, cell, closing}
-use Rattle.gsa.specs.Many.{many, skip, takeWhile1, eof, allConsuming, oneOf3}
+use Rattle.text.specs.Many.{many, skip, takeWhile1, eof, allConsuming, oneOf3}
 use Rattle.gsa.specs.Gsa.{gsa, emptyTail, lastSystem, fullTail, prnFields, item, dop, dops, afterComma as systemAfterComma, optSystem}
-use Rattle.rmc.specs.Rmc.{rmc, fix, motion, letters, ending, withComma, ifComma, afterComma}
+use Rattle.rmc.specs.Rmc.{rmc, fixPart, motion, letters, ending, withComma, ifComma, optLetter}
 use Rattle.sentence.specs.Sentence.{Answer, isRmc, isGsa, isGsv, isRefused, dispatch, answer}
 
 -- a satellite with all that an entry may hold
@@ -35,7 +35,7 @@ sat i e a s = record { id = i; elevation = some e; azimuth = some a; signal = so
 
 -- a short decimal of so many digits after the point
 abbrev short : ℕ → ℕ → Short
-short n k = shortOf (unsigned n k)
+short n k = shortOf (withoutSign n k)
 
 abbrev Row : Type 0
 Row = List ℕ × Answer
@@ -128,5 +128,5 @@ rows = (
     ∷ []
 
 pub worked : Holds rows
-unfolding answer dispatch frame sized sentence sentenceType checksumField taken known hex digit checksumFrom types alike listed follow step after ascii until char oneOf among letterOf _>>=_ pure opt alt orMiss number numberFrom fixed decimal shortDecimal longDecimal hms clock timed date side latitude longitude doLatLon commas latLon doVariation variation rowOf gsv entry counted cell closing many skip takeWhile1 eof allConsuming oneOf3 gsa emptyTail lastSystem fullTail prnFields item dop dops systemAfterComma optSystem rmc fix motion letters ending withComma ifComma afterComma
+unfolding answer dispatch frame sized sentence sentenceType checksumField taken known hex digit checksumFrom types alike listed follow step after ascii until char oneOf among letterOf _>>=_ pure opt alt orMiss number numberFrom fixed decimal shortDecimal longDecimal hms clock timed date side latitude longitude doLatLon commas latLon doVariation variation rowOf gsv entry counted cell closing many skip takeWhile1 eof allConsuming oneOf3 gsa emptyTail lastSystem fullTail prnFields item dop dops systemAfterComma optSystem rmc fixPart motion letters ending withComma ifComma optLetter
 worked = (refl, (refl, (refl, (refl, (refl, (refl, (refl, (refl, (refl, (refl, (refl, (refl, tt))))))))))))

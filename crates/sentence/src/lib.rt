@@ -1,10 +1,8 @@
 // A line's whole answer: framing, then the reader of its type. Every byte string has one.
 ghost use mathlib.Core.Path.{_≡_};
-ghost use mathlib.Core.Bool.{true, cond};
 ghost use mathlib.Core.List.{[]};
 ghost use Prim.Native.Nat.{_≤_};
 ghost use lib.ListN.{length};
-ghost use Rattle.text.specs.Bytes.{bytes};
 ghost use Rattle.frame.specs.Types.{alike};
 ghost use Rattle.frame.specs.Answer.{letters, parts, refused};
 ghost use Rattle.sentence.specs.Sentence.{isRefused, rmcOf, gsaOf, gsvOf, dispatch, answer, verdictOf, parseRmc, parseGsa, parseGsv};

@@ -9,9 +9,9 @@ use lib.ListN.{length, length-append}
 use lib.Dec.{leb, ltb}
 use borrow.Author.Tests.{le-leb, lt-ltb, le-ltb, ltb-true, ltb-false, leb-true}
 use Rattle.text.specs.Reader.{miss, got}
-use Rattle.text.specs.Number.{isDigit, digits, afterDigits, valueFrom, numberFrom, number}
+use Rattle.text.specs.Number.{isDigit, leadingDigits, afterDigits, valueFrom, numberFrom, number}
 use Rattle.text.proofs.Digits.{digit-yes}
-use Rattle.short.specs.Digits.{digitsFor, digitsOf, padded, AllDigits}
+use Rattle.short.specs.Digits.{digitsFor, digitsOf, AllDigits}
 
 -- a digit is a byte from 48 to 57
 pub digit-range : (b : ℕ) → isDigit b ≡ true → (48 ≤ b) × (b ≤ 57)
@@ -26,24 +26,24 @@ all-append [] b p q = q
 all-append (x ∷ a) b p q = (p .0, all-append a b (p .1) q)
 
 -- digits in front of a text that begins with none are the digits that it begins with
-pub digits-front : (ds rest : List ℕ) → AllDigits ds → digits rest ≡ [] → digits (ds ++ rest) ≡ ds
+pub digits-front : (ds rest : List ℕ) → AllDigits ds → leadingDigits rest ≡ [] → leadingDigits (ds ++ rest) ≡ ds
 digits-front [] rest p e = e
 digits-front (b ∷ ds) rest p e = rw (p .0) (ap (λ (l : List ℕ). b ∷ l) (digits-front ds rest (p .1) e))
 
-after-none : (rest : List ℕ) → digits rest ≡ [] → afterDigits rest ≡ rest
+after-none : (rest : List ℕ) → leadingDigits rest ≡ [] → afterDigits rest ≡ rest
 after-none [] e = refl
 after-none (b ∷ l) e = by (isDigit b) e
   where
-    by : (t : Bool) → cond t (b ∷ digits l) [] ≡ [] → cond t (afterDigits l) (b ∷ l) ≡ b ∷ l
+    by : (t : Bool) → cond t (b ∷ leadingDigits l) [] ≡ [] → cond t (afterDigits l) (b ∷ l) ≡ b ∷ l
     by true e = let z : _≡_ {A = ℕ} 0 1 = cc in absurd (omega arith)
     by false e = refl
 
-pub after-front : (ds rest : List ℕ) → AllDigits ds → digits rest ≡ [] → afterDigits (ds ++ rest) ≡ rest
+pub after-front : (ds rest : List ℕ) → AllDigits ds → leadingDigits rest ≡ [] → afterDigits (ds ++ rest) ≡ rest
 after-front [] rest p e = after-none rest e
 after-front (b ∷ ds) rest p e = rw (p .0) (after-front ds rest (p .1) e)
 
 -- READING DIGITS: one or more digits, leading zeros too, before a text that begins with none
-pub number-of : (max : ℕ) (ds rest : List ℕ) → AllDigits ds → 0 < length ds → digits rest ≡ [] → valueFrom 0 ds ≤ max
+pub number-of : (max : ℕ) (ds rest : List ℕ) → AllDigits ds → 0 < length ds → leadingDigits rest ≡ [] → valueFrom 0 ds ≤ max
     → number max (ds ++ rest) ≡ got (valueFrom 0 ds) rest
 unfolding number numberFrom
 number-of max ds rest p h e m =
@@ -90,7 +90,7 @@ pub some-digit : (n : ℕ) → 1 ≤ length (digitsOf n)
 some-digit = shortest-ind (λ n ds. 1 ≤ length ds) (λ n h. omega arith) (λ n ds h p. simp length-append (omega arith))
 
 -- A NUMBER'S SHORTEST TEXT READS BACK
-pub reads-back : (max n : ℕ) (rest : List ℕ) → n ≤ max → digits rest ≡ [] → number max (digitsOf n ++ rest) ≡ got n rest
+pub reads-back : (max n : ℕ) (rest : List ℕ) → n ≤ max → leadingDigits rest ≡ [] → number max (digitsOf n ++ rest) ≡ got n rest
 reads-back max n rest h e =
     let v : valueFrom 0 (digitsOf n) ≡ n = write-value n in
     number-of max (digitsOf n) rest (are-digits n) (some-digit n) e (omega arith) ∙ ap (λ (m : ℕ). got m rest) v
@@ -128,37 +128,37 @@ pub shortest-of : (n : ℕ) (ds : List ℕ) → AllDigits ds → 1 ≤ length ds
 shortest-of n ds p h e = rw (← e) (shortest ds p h)
 
 -- the digits that a text begins with
-pub begin-digits : (l : List ℕ) → AllDigits (digits l)
+pub begin-digits : (l : List ℕ) → AllDigits (leadingDigits l)
 begin-digits [] = tt
 begin-digits (b ∷ l) = by (isDigit b) refl (begin-digits l)
   where
-    by : (t : Bool) → isDigit b ≡ t → AllDigits (digits l) → AllDigits (cond t (b ∷ digits l) [])
+    by : (t : Bool) → isDigit b ≡ t → AllDigits (leadingDigits l) → AllDigits (cond t (b ∷ leadingDigits l) [])
     by true e p = (e, p)
     by false e p = tt
 
-pub split-length : (l : List ℕ) → length (digits l) + length (afterDigits l) ≡ length l
+pub split-length : (l : List ℕ) → length (leadingDigits l) + length (afterDigits l) ≡ length l
 split-length [] = refl
 split-length (b ∷ l) = by (isDigit b) (split-length l)
   where
-    by : (t : Bool) → length (digits l) + length (afterDigits l) ≡ length l
-        → length (cond t (b ∷ digits l) []) + length (cond t (afterDigits l) (b ∷ l)) ≡ length (b ∷ l)
+    by : (t : Bool) → length (leadingDigits l) + length (afterDigits l) ≡ length l
+        → length (cond t (b ∷ leadingDigits l) []) + length (cond t (afterDigits l) (b ∷ l)) ≡ length (b ∷ l)
     by true h = omega arith
     by false h = omega arith
 
 -- A NUMBER THAT IS READ is in its range, and takes at least the bytes of its shortest text
 pub number-eats : (max : ℕ) (l : List ℕ) {n : ℕ} {m : List ℕ} → number max l ≡ got n m → (n ≤ max) × (length (digitsOf n) + length m ≤ length l)
 unfolding number numberFrom
-number-eats max l {n} {m} e = by (ltb 0 (length (digits l))) (leb (valueFrom 0 (digits l)) max) refl refl e
+number-eats max l {n} {m} e = by (ltb 0 (length (leadingDigits l))) (leb (valueFrom 0 (leadingDigits l)) max) refl refl e
   where
-    by : (t u : Bool) → ltb 0 (length (digits l)) ≡ t → leb (valueFrom 0 (digits l)) max ≡ u
-        → cond t (cond u (got (valueFrom 0 (digits l)) (afterDigits l)) miss) miss ≡ got n m → (n ≤ max) × (length (digitsOf n) + length m ≤ length l)
+    by : (t u : Bool) → ltb 0 (length (leadingDigits l)) ≡ t → leb (valueFrom 0 (leadingDigits l)) max ≡ u
+        → cond t (cond u (got (valueFrom 0 (leadingDigits l)) (afterDigits l)) miss) miss ≡ got n m → (n ≤ max) × (length (digitsOf n) + length m ≤ length l)
     by true true et eu e =
-        let v : valueFrom 0 (digits l) ≡ n = cc in
+        let v : valueFrom 0 (leadingDigits l) ≡ n = cc in
         let w : afterDigits l ≡ m = cc in
-        let h : 0 < length (digits l) = ltb-true _ _ et in
-        let k : valueFrom 0 (digits l) ≤ max = leb-true _ _ eu in
-        let s : length (digitsOf n) ≤ length (digits l) = shortest-of n (digits l) (begin-digits l) h v in
-        let q : length (digits l) + length m ≡ length l = rw w at (split-length l) in
+        let h : 0 < length (leadingDigits l) = ltb-true _ _ et in
+        let k : valueFrom 0 (leadingDigits l) ≤ max = leb-true _ _ eu in
+        let s : length (digitsOf n) ≤ length (leadingDigits l) = shortest-of n (leadingDigits l) (begin-digits l) h v in
+        let q : length (leadingDigits l) + length m ≡ length l = rw w at (split-length l) in
         (omega arith, omega arith)
     by true false et eu e = let z : _≡_ {A = ℕ} 0 1 = cc in absurd (omega arith)
     by false u et eu e = let z : _≡_ {A = ℕ} 0 1 = cc in absurd (omega arith)
@@ -190,29 +190,3 @@ digits-tenth n h =
 
 pub count-tenth : (n : ℕ) → 10 ≤ n → length (digitsOf n) ≡ length (digitsOf (n / 10)) + 1
 count-tenth n h = ap length (digits-tenth n h) ∙ length-append (digitsOf (n / 10)) ((48 + n % 10) ∷ [])
-
--- DIGITS OF A FIXED WIDTH read back too
-pub padded-length : (k n : ℕ) → length (padded k n) ≡ k
-unfolding padded
-padded-length zero n = refl
-padded-length (suc k) n = simp length-append (omega (arith, padded-length k (n / 10)))
-
-pub padded-digits : (k n : ℕ) → AllDigits (padded k n)
-unfolding padded
-padded-digits zero n = tt
-padded-digits (suc k) n =
-    all-append (padded k (n / 10)) ((48 + n % 10) ∷ []) (padded-digits k (n / 10)) (digit-yes (48 + n % 10) (omega arith) (omega arith), tt)
-
-pub padded-value : (k n : ℕ) → n < tens k → valueFrom 0 (padded k n) ≡ n
-unfolding padded
-padded-value zero n h = omega arith
-padded-value (suc k) n h =
-    let v : valueFrom 0 (padded k (n / 10) ++ ((48 + n % 10) ∷ [])) ≡ valueFrom 0 (padded k (n / 10)) * 10 + (48 + n % 10 - 48) =
-    value-append 0 (padded k (n / 10)) ((48 + n % 10) ∷ [])
-    in
-    omega (arith, padded-value k (n / 10) (omega arith))
-
-pub padded-back : (max k n : ℕ) (rest : List ℕ) → 1 ≤ k → n < tens k → n ≤ max → digits rest ≡ [] → number max (padded k n ++ rest) ≡ got n rest
-padded-back max k n rest h b m e =
-    let v : valueFrom 0 (padded k n) ≡ n = padded-value k n b in
-    number-of max (padded k n) rest (padded-digits k n) (omega (arith, padded-length k n)) e (omega arith) ∙ ap (λ (m : ℕ). got m rest) v

@@ -1,5 +1,4 @@
 pub mod Digits
-pub mod Binds
 pub mod Texts
 pub mod Plain
 pub mod Hex

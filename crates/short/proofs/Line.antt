@@ -12,7 +12,7 @@ use Rattle.utf8.specs.Utf8.{ascii}
 use Rattle.text.specs.Bytes.{byte, bytes}
 use Rattle.text.specs.Reader.{Parse, got}
 use Rattle.text.specs.Value.{value}
-use Rattle.frame.specs.Types.{types, alike, among}
+use Rattle.frame.specs.Types.{types, alike, listed}
 use Rattle.frame.specs.Checksum.{checksum}
 use Rattle.frame.specs.Frame.{maxLength, Parts, accepted, judged, sized, frame}
 use Rattle.frame.proofs.Shape.{line-of as line-with, parts-of, shaped, line-back}
@@ -70,8 +70,8 @@ room l h e =
           );
     }
 
-known : among types (bytes "GSV") ≡ true
-unfolding types among alike
+known : listed types (bytes "GSV") ≡ true
+unfolding types listed alike
 known = refl
 
 -- a GSV line with a talker and data of ASCII bytes

@@ -9,21 +9,20 @@ use lib.ListN.{length, drop, length-append}
 use lib.Seq.{drop-drop}
 use Rattle.text.specs.Bytes.{byte}
 use Rattle.text.specs.Reader.{miss, got, _>>=_, pure, opt, char}
-use Rattle.text.specs.Number.{digits, number}
+use Rattle.text.specs.Number.{leadingDigits, number}
 use Rattle.gsv.specs.Gsv.{Satellite, Gsv, closing, counted, cell, entry, gsv, keep, present}
-use Rattle.frame.proofs.Binds.{bind-got}
 use Rattle.short.specs.Digits.{digitsOf}
 use Rattle.short.specs.Texts.{optText, entryText, entriesText, dataText, Upto, Readable, AllReadable, firstOf, bodyOf}
 use Rattle.short.proofs.Digits.{reads-back, number-eats}
-use Rattle.short.proofs.Binds.{unbind, pure-is, opt-some, opt-none, unopt, char-eats}
+use Rattle.text.proofs.Binds.{bind-got, unbind, pure-is, opt-some, opt-none, unopt, char-eats}
 
 -- FORWARDS
 
-no-number : (max : ℕ) (rest : List ℕ) → digits rest ≡ [] → number max rest ≡ miss
+no-number : (max : ℕ) (rest : List ℕ) → leadingDigits rest ≡ [] → number max rest ≡ miss
 unfolding number
 no-number max rest e = rw e
 
-opt-back : (max : ℕ) (o : Option ℕ) (rest : List ℕ) → Upto max o → digits rest ≡ [] → opt (number max) (optText o ++ rest) ≡ got o rest
+opt-back : (max : ℕ) (o : Option ℕ) (rest : List ℕ) → Upto max o → leadingDigits rest ≡ [] → opt (number max) (optText o ++ rest) ≡ got o rest
 opt-back max none rest h e = opt-none (number max) (no-number max rest e)
 opt-back max (some n) rest h e = opt-some (number max) (reads-back max n rest h e)
 
@@ -36,7 +35,7 @@ unfolding cell char pure _>>=_
 cell-back max o rest h = bind-got (opt (number max)) (λ n. char (byte ",") >>= (λ _. pure n)) _ (opt-back max o (byte "," ∷ rest) h refl)
 
 -- an entry before a text that closes it
-entry-back : (s : Satellite) (rest more : List ℕ) → Readable s → digits rest ≡ [] → closing rest ≡ got tt more → entry (entryText s ++ rest) ≡ got s more
+entry-back : (s : Satellite) (rest more : List ℕ) → Readable s → leadingDigits rest ≡ [] → closing rest ≡ got tt more → entry (entryText s ++ rest) ≡ got s more
 unfolding entry entryText pure
 entry-back s rest more h d c =
     simp append-assoc

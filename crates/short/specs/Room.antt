@@ -4,7 +4,7 @@ use mathlib.Core.Path.{_≡_}
 use mathlib.Core.List.{List}
 use lib.ListN.{length}
 use Rattle.frame.specs.Frame.{maxLength}
-use Rattle.gsv.specs.Gsv.{Satellite}
+use Rattle.gsv.specs.Gsv.{countMax, Satellite}
 use Rattle.sentence.specs.Sentence.{GsvSentence, answer, isGsv}
 use Rattle.short.specs.Digits.{digitsOf}
 use Rattle.short.specs.Texts.{AllReadable, entriesText}
@@ -16,7 +16,7 @@ beside = 15
 
 -- at most four entries, and the bytes for them
 pub record Room (v : ℕ) (es : List Satellite) : Type 0 where
-  pub view : v ≤ 65535
+  pub view : v ≤ countMax
   pub each : AllReadable es
   pub four : length es ≤ 4
   pub bytes : beside + length (digitsOf v) + length (entriesText es) ≤ maxLength

@@ -4,7 +4,7 @@ use mathlib.Core.List.{List, [], _∷_, _++_}
 use mathlib.Core.Option.{Option, none, some}
 use lib.ListN.{drop}
 use Rattle.text.specs.Bytes.{byte}
-use Rattle.gsv.specs.Gsv.{Satellite, Gsv}
+use Rattle.gsv.specs.Gsv.{idMax, placeMax, Satellite, Gsv}
 use Rattle.short.specs.Digits.{digitsOf}
 
 -- a number that may be absent
@@ -32,10 +32,10 @@ Upto max none = Unit {0}
 Upto max (some n) = n ≤ max
 
 pub record Readable (s : Satellite) : Type 0 where
-  pub id : s .id ≤ 4294967295
-  pub elevation : Upto 2147483647 (s .elevation)
-  pub azimuth : Upto 2147483647 (s .azimuth)
-  pub signal : Upto 2147483647 (s .signal)
+  pub id : s .id ≤ idMax
+  pub elevation : Upto placeMax (s .elevation)
+  pub azimuth : Upto placeMax (s .azimuth)
+  pub signal : Upto placeMax (s .signal)
 
 abbrev pub AllReadable : List Satellite → Type 0
 AllReadable [] = Unit {0}

@@ -8,18 +8,12 @@ use lib.ListN.{length, drop, getD}
 use borrow.Author.Tests.{le-leb, lt-leb, lt-ltb}
 use Rattle.text.specs.Reader.{miss, got}
 use Rattle.text.proofs.Places.{here, ended}
-use Rattle.text.specs.Number.{isDigit, digits, valueFrom, numberFrom, number}
+use Rattle.text.specs.Number.{isDigit, leadingDigits, valueFrom, numberFrom, number}
 use Rattle.text.specs.Units.{unit}
 use Rattle.text.proofs.Fixed.{unit-digit, unit-none, unit-is}
 
 pub digit-yes : (b : ℕ) → 48 ≤ b → b ≤ 57 → isDigit b ≡ true
 digit-yes b h k = simp (le-leb _ _ h, le-leb _ _ k)
-
-pub digit-below : (b : ℕ) → b < 48 → isDigit b ≡ false
-digit-below b h = simp (lt-leb _ _ h)
-
-pub digit-above : (b : ℕ) → 57 < b → isDigit b ≡ false
-digit-above b h = let k : 48 ≤ b = omega arith in simp (le-leb _ _ k, lt-leb _ _ h)
 
 -- more digits write no smaller number
 pub grows : (n : ℕ) (ds : List ℕ) → n ≤ valueFrom n ds
@@ -44,7 +38,7 @@ module _ (max n : ℕ) (s : List ℕ) (i : ℕ) where
 pub number-over : (max n : ℕ) (l : List ℕ) → max < n → numberFrom max n l ≡ miss
 unfolding numberFrom
 number-over max n l h =
-    let k : max < valueFrom n (digits l) = omega (arith, grows n (digits l)) in
+    let k : max < valueFrom n (leadingDigits l) = omega (arith, grows n (leadingDigits l)) in
     rw (lt-leb _ _ k)
 
 module _ (max : ℕ) (s : List ℕ) (i : ℕ) where
@@ -52,7 +46,7 @@ module _ (max : ℕ) (s : List ℕ) (i : ℕ) where
   unfolding number
   number-first h e =
       let k : (l : List ℕ) → 0 < length (getD s i 0 ∷ l) = λ l. omega arith in
-      rw (here s i h, e, lt-ltb _ _ (k (digits (drop (i + 1) s))))
+      rw (here s i h, e, lt-ltb _ _ (k (leadingDigits (drop (i + 1) s))))
 
   pub number-none : i < length s → isDigit (getD s i 0) ≡ false → number max (drop i s) ≡ miss
   unfolding number

@@ -9,7 +9,7 @@ use lib.ListN.{length, take, drop, getD, length-drop}
 use lib.Dec.{leb, ltb, eqb}
 use borrow.Author.Tests.{le-leb, lt-leb, leb-true, ltb-true, ltb-false, lt-ltb, le-ltb, ne-eqb}
 use Rattle.text.specs.Reader.{Parse, miss, got}
-use Rattle.text.specs.Number.{isDigit, digits, afterDigits, valueFrom, fixed, two, three, unsigned, upTo, written}
+use Rattle.text.specs.Number.{isDigit, leadingDigits, afterDigits, valueFrom, fixed, twoBytes, threeBytes, unsigned, upTo, written}
 use Rattle.text.proofs.Places.{here}
 use Rattle.text.specs.Units.{unit, leadUnit}
 
@@ -54,13 +54,13 @@ unit-is b e = by (leb 48 b) (leb b 57) refl e
     by true u f e = unit-high b (leb-true 48 b f)
     by false u f e = let z : _≡_ {A = ℕ} 0 1 = cc in absurd (omega arith)
 
-two-of : (a b : ℕ) (l : List ℕ) → two (a ∷ b ∷ l) ≡ upTo 255 (unsigned (a ∷ b ∷ [])) l
+two-of : (a b : ℕ) (l : List ℕ) → twoBytes (a ∷ b ∷ l) ≡ upTo 255 (unsigned (a ∷ b ∷ [])) l
 unfolding fixed
 two-of a b l =
     let h : 2 ≤ length (a ∷ b ∷ l) = omega arith in
     rw (le-leb _ _ h)
 
-three-of : (a b c : ℕ) (l : List ℕ) → three (a ∷ b ∷ c ∷ l) ≡ upTo 255 (unsigned (a ∷ b ∷ c ∷ [])) l
+three-of : (a b c : ℕ) (l : List ℕ) → threeBytes (a ∷ b ∷ c ∷ l) ≡ upTo 255 (unsigned (a ∷ b ∷ c ∷ [])) l
 unfolding fixed
 three-of a b c l =
     let h : 3 ≤ length (a ∷ b ∷ c ∷ l) = omega arith in
@@ -77,7 +77,7 @@ stuck (a ∷ ds) b l e = by (isDigit a) (stuck ds b l e)
     by false h = omega arith
 
 pub not-written : (ds : List ℕ) (b : ℕ) (l : List ℕ) → isDigit b ≡ false → written (ds ++ (b ∷ l)) ≡ none
-not-written ds b l e = by (ltb 0 (length (digits (ds ++ (b ∷ l))))) (eqb (length (afterDigits (ds ++ (b ∷ l)))) 0) (ne-eqb _ _ ne)
+not-written ds b l e = by (ltb 0 (length (leadingDigits (ds ++ (b ∷ l))))) (eqb (length (afterDigits (ds ++ (b ∷ l)))) 0) (ne-eqb _ _ ne)
   where
     ne : length (afterDigits (ds ++ (b ∷ l))) ≡ 0 → ⊥
     ne z = let h = stuck ds b l e in omega arith
@@ -162,50 +162,50 @@ fixed-short n s at h =
 
 -- at a place of a text
 module _ (s : List ℕ) (at : ℕ) where
-  pub two-here : 2 + at ≤ length s → two (drop at s) ≡ upTo 255 (unsigned (getD s at 0 ∷ getD s (at + 1) 0 ∷ [])) (drop (at + 2) s)
+  pub two-here : 2 + at ≤ length s → twoBytes (drop at s) ≡ upTo 255 (unsigned (getD s at 0 ∷ getD s (at + 1) 0 ∷ [])) (drop (at + 2) s)
   two-here h =
       let e : at + 1 + 1 ≡ at + 2 = omega arith in
-      ap two (here s at (omega arith) ∙ ap (λ (l : List ℕ). getD s at 0 ∷ l) (here s (at + 1) (omega arith))) ∙ two-of _ _ _
+      ap twoBytes (here s at (omega arith) ∙ ap (λ (l : List ℕ). getD s at 0 ∷ l) (here s (at + 1) (omega arith))) ∙ two-of _ _ _
       ∙ ap (λ (i : ℕ). upTo 255 (unsigned (getD s at 0 ∷ getD s (at + 1) 0 ∷ [])) (drop i s)) e
 
-  pub three-here : 3 + at ≤ length s → three (drop at s) ≡ upTo 255 (unsigned (getD s at 0 ∷ getD s (at + 1) 0 ∷ getD s (at + 2) 0 ∷ [])) (drop (at + 3) s)
+  pub three-here : 3 + at ≤ length s → threeBytes (drop at s) ≡ upTo 255 (unsigned (getD s at 0 ∷ getD s (at + 1) 0 ∷ getD s (at + 2) 0 ∷ [])) (drop (at + 3) s)
   three-here h =
       let e : at + 1 + 1 ≡ at + 2 = omega arith in
       let e′ : at + 2 + 1 ≡ at + 3 = omega arith in
-      ap three (here s at (omega arith) ∙ ap (λ (l : List ℕ). getD s at 0 ∷ l) (here s (at + 1) (omega arith) ∙ ap (λ (l : List ℕ). getD s (at + 1) 0 ∷ l) (ap (λ (i : ℕ). drop i s) e ∙ here s (at + 2) (omega arith)))) ∙ three-of _ _ _ _
+      ap threeBytes (here s at (omega arith) ∙ ap (λ (l : List ℕ). getD s at 0 ∷ l) (here s (at + 1) (omega arith) ∙ ap (λ (l : List ℕ). getD s (at + 1) 0 ∷ l) (ap (λ (i : ℕ). drop i s) e ∙ here s (at + 2) (omega arith)))) ∙ three-of _ _ _ _
       ∙ ap (λ (i : ℕ). upTo 255 (unsigned (getD s at 0 ∷ getD s (at + 1) 0 ∷ getD s (at + 2) 0 ∷ [])) (drop i s)) e′
 
   pub two-got : 2 + at ≤ length s → leadUnit (getD s at 0) ≤ 9 → unit (getD s (at + 1) 0) ≤ 9
-      → two (drop at s) ≡ got (leadUnit (getD s at 0) * 10 + unit (getD s (at + 1) 0)) (drop (at + 2) s)
+      → twoBytes (drop at s) ≡ got (leadUnit (getD s at 0) * 10 + unit (getD s (at + 1) 0)) (drop (at + 2) s)
   two-got h k j = two-here h ∙ up-some _ _ (units2 (getD s at 0) (getD s (at + 1) 0) k j) (omega arith)
 
-  pub two-lead : 2 + at ≤ length s → 9 < leadUnit (getD s at 0) → two (drop at s) ≡ miss
+  pub two-lead : 2 + at ≤ length s → 9 < leadUnit (getD s at 0) → twoBytes (drop at s) ≡ miss
   two-lead h k = two-here h ∙ up-none _ _ (lead-none (getD s at 0) (getD s (at + 1) 0) [] k)
 
-  pub two-later : 2 + at ≤ length s → 9 < unit (getD s (at + 1) 0) → two (drop at s) ≡ miss
+  pub two-later : 2 + at ≤ length s → 9 < unit (getD s (at + 1) 0) → twoBytes (drop at s) ≡ miss
   two-later h k = two-here h ∙ up-none _ _ (later-none (getD s at 0) [] (getD s (at + 1) 0) [] k)
 
   pub three-got : 3 + at ≤ length s → leadUnit (getD s at 0) ≤ 9 → unit (getD s (at + 1) 0) ≤ 9 → unit (getD s (at + 2) 0) ≤ 9
       → (leadUnit (getD s at 0) * 10 + unit (getD s (at + 1) 0)) * 10 + unit (getD s (at + 2) 0) ≤ 255
-      → three (drop at s) ≡ got ((leadUnit (getD s at 0) * 10 + unit (getD s (at + 1) 0)) * 10 + unit (getD s (at + 2) 0)) (drop (at + 3) s)
+      → threeBytes (drop at s) ≡ got ((leadUnit (getD s at 0) * 10 + unit (getD s (at + 1) 0)) * 10 + unit (getD s (at + 2) 0)) (drop (at + 3) s)
   three-got h k j i m = three-here h ∙ up-some _ _ (units3 (getD s at 0) (getD s (at + 1) 0) (getD s (at + 2) 0) k j i) m
 
   pub three-over : 3 + at ≤ length s → leadUnit (getD s at 0) ≤ 9 → unit (getD s (at + 1) 0) ≤ 9 → unit (getD s (at + 2) 0) ≤ 9
       → 255 < (leadUnit (getD s at 0) * 10 + unit (getD s (at + 1) 0)) * 10 + unit (getD s (at + 2) 0)
-      → three (drop at s) ≡ miss
+      → threeBytes (drop at s) ≡ miss
   three-over h k j i m = three-here h ∙ up-over _ _ (units3 (getD s at 0) (getD s (at + 1) 0) (getD s (at + 2) 0) k j i) m
 
-  pub three-lead : 3 + at ≤ length s → 9 < leadUnit (getD s at 0) → three (drop at s) ≡ miss
+  pub three-lead : 3 + at ≤ length s → 9 < leadUnit (getD s at 0) → threeBytes (drop at s) ≡ miss
   three-lead h k = three-here h ∙ up-none _ _ (lead-none (getD s at 0) (getD s (at + 1) 0) (getD s (at + 2) 0 ∷ []) k)
 
-  pub three-second : 3 + at ≤ length s → 9 < unit (getD s (at + 1) 0) → three (drop at s) ≡ miss
+  pub three-second : 3 + at ≤ length s → 9 < unit (getD s (at + 1) 0) → threeBytes (drop at s) ≡ miss
   three-second h k = three-here h ∙ up-none _ _ (later-none (getD s at 0) [] (getD s (at + 1) 0) (getD s (at + 2) 0 ∷ []) k)
 
-  pub three-third : 3 + at ≤ length s → 9 < unit (getD s (at + 2) 0) → three (drop at s) ≡ miss
+  pub three-third : 3 + at ≤ length s → 9 < unit (getD s (at + 2) 0) → threeBytes (drop at s) ≡ miss
   three-third h k = three-here h ∙ up-none _ _ (later-none (getD s at 0) (getD s (at + 1) 0 ∷ []) (getD s (at + 2) 0) [] k)
 
   pub two-read : {x y : ℕ} → x ≡ leadUnit (getD s at 0) → y ≡ unit (getD s (at + 1) 0) → 2 + at ≤ length s → x ≤ 9 → y ≤ 9
-      → two (drop at s) ≡ got (x * 10 + y) (drop (at + 2) s)
+      → twoBytes (drop at s) ≡ got (x * 10 + y) (drop (at + 2) s)
   two-read {x} {y} p q h k j =
       two-got h (rw p at k) (rw q at j)
       ∙ ap (λ (z : ℕ). got (z * 10 + unit (getD s (at + 1) 0)) (drop (at + 2) s)) (sym p)
@@ -221,13 +221,13 @@ module _ (s : List ℕ) (at : ℕ) where
 
   pub three-read : {x y z : ℕ} → x ≡ leadUnit (getD s at 0) → y ≡ unit (getD s (at + 1) 0) → z ≡ unit (getD s (at + 2) 0) → 3 + at ≤ length s
       → x ≤ 9 → y ≤ 9 → z ≤ 9 → (x * 10 + y) * 10 + z ≤ 255
-      → three (drop at s) ≡ got ((x * 10 + y) * 10 + z) (drop (at + 3) s)
+      → threeBytes (drop at s) ≡ got ((x * 10 + y) * 10 + z) (drop (at + 3) s)
   three-read {x} {y} {z} p q r h k j i m =
       let e = three-number p q r in
       three-got h (rw p at k) (rw q at j) (rw r at i) (rw (← e) at m) ∙ ap (λ (u : ℕ). got u (drop (at + 3) s)) e
 
   pub three-big : {x y z : ℕ} → x ≡ leadUnit (getD s at 0) → y ≡ unit (getD s (at + 1) 0) → z ≡ unit (getD s (at + 2) 0) → 3 + at ≤ length s
-      → x ≤ 9 → y ≤ 9 → z ≤ 9 → 255 < (x * 10 + y) * 10 + z → three (drop at s) ≡ miss
+      → x ≤ 9 → y ≤ 9 → z ≤ 9 → 255 < (x * 10 + y) * 10 + z → threeBytes (drop at s) ≡ miss
   three-big {x} {y} {z} p q r h k j i m =
       let e = three-number p q r in
       three-over h (rw p at k) (rw q at j) (rw r at i) (rw (← e) at m)

@@ -1,3 +1,4 @@
+pub mod Binds
 pub mod Places
 pub mod Steps
 pub mod Letters

@@ -5,7 +5,7 @@ use mathlib.Core.List.{List}
 use mathlib.Core.Option.{Option, none, some}
 use Rattle.text.specs.Reader.{Reader, _>>=_, orMiss}
 use Rattle.text.specs.Placed.{Placed, unread, Reads}
-use Rattle.text.specs.Answer.{whole, next, lettered, held, field}
+use Rattle.text.specs.Answer.{wholeAt, next, lettered, held, field}
 use Rattle.text.proofs.Places.{stop, go, done, miss-none, miss-some}
 use Rattle.text.specs.declared.Whole.{Whole}
 use Rattle.text.specs.declared.Whole.the-variants.{No, Is}
@@ -16,11 +16,11 @@ use Rattle.text.specs.declared.Letter.the-variants.{No as NoLetter, Is a
 use Rattle.text.specs.declared.Field.{Field}
 
 module _ {B : Type 0} {s : List ℕ} {at : ℕ} where
-  pub stop-whole : {q : Reader ℕ} (k : ℕ → Reader B) {r : Whole} → r ≡ No → Reads s at q (whole r) → Reads s at (q >>= k) unread
-  stop-whole k e t = stop k t (ap whole e)
+  pub stop-whole : {q : Reader ℕ} (k : ℕ → Reader B) {r : Whole} → r ≡ No → Reads s at q (wholeAt r) → Reads s at (q >>= k) unread
+  stop-whole k e t = stop k t (ap wholeAt e)
 
-  pub go-whole : {q : Reader ℕ} (k : ℕ → Reader B) {r : Whole} {v p : ℕ} {b : Placed B} → r ≡ Is v p → Reads s at q (whole r) → Reads s p (k v) b → Reads s at (q >>= k) b
-  go-whole k e t u = go k t (ap whole e) u
+  pub go-whole : {q : Reader ℕ} (k : ℕ → Reader B) {r : Whole} {v p : ℕ} {b : Placed B} → r ≡ Is v p → Reads s at q (wholeAt r) → Reads s p (k v) b → Reads s at (q >>= k) b
+  go-whole k e t u = go k t (ap wholeAt e) u
 
   pub stop-next : {q : Reader (Unit {0})} (k : Unit {0} → Reader B) {r : Next} → r ≡ Stop → Reads s at q (next r) → Reads s at (q >>= k) unread
   stop-next k e t = stop k t (ap next e)

@@ -14,9 +14,9 @@ use Rattle.text.specs.declared.Field.{Field}
 use Rattle.text.specs.declared.Letter.{Letter}
 use Rattle.text.specs.declared.Letter.the-variants.{No as NoLetter, Is as ALetter}
 
-abbrev pub whole : Whole → Placed ℕ
-whole No = unread
-whole (Is v p) = upto v p
+abbrev pub wholeAt : Whole → Placed ℕ
+wholeAt No = unread
+wholeAt (Is v p) = upto v p
 
 abbrev pub next : Next → Placed (Unit {0})
 next Stop = unread

@@ -1,4 +1,5 @@
 pub mod Reader
+pub mod Many
 pub mod Placed
 pub mod Bytes
 pub mod Number

@@ -12,9 +12,9 @@ abbrev pub isDigit : ℕ → Bool
 isDigit b = leb (byte "0") b && leb b (byte "9")
 
 -- the digits that a text begins with, and the text after them
-abbrev pub digits : List ℕ → List ℕ
-digits [] = []
-digits (b ∷ l) = cond (isDigit b) (b ∷ digits l) []
+abbrev pub leadingDigits : List ℕ → List ℕ
+leadingDigits [] = []
+leadingDigits (b ∷ l) = cond (isDigit b) (b ∷ leadingDigits l) []
 
 abbrev pub afterDigits : List ℕ → List ℕ
 afterDigits [] = []
@@ -27,15 +27,15 @@ valueFrom n (b ∷ l) = valueFrom (n * 10 + (b - byte "0")) l
 
 -- the digits that a text begins with, as a number that goes on from `n`, up to `max`
 unfoldable pub numberFrom : ℕ → ℕ → Reader ℕ
-numberFrom max n l = cond (leb (valueFrom n (digits l)) max) (got (valueFrom n (digits l)) (afterDigits l)) miss
+numberFrom max n l = cond (leb (valueFrom n (leadingDigits l)) max) (got (valueFrom n (leadingDigits l)) (afterDigits l)) miss
 
 -- number: one or more digits, however many, that write a number up to `max`
 unfoldable pub number : ℕ → Reader ℕ
-number max l = cond (ltb 0 (length (digits l))) (numberFrom max 0 l) miss
+number max l = cond (ltb 0 (length (leadingDigits l))) (numberFrom max 0 l) miss
 
 -- one or more digits and nothing else
 abbrev pub onlyDigits : List ℕ → Bool
-onlyDigits l = ltb 0 (length (digits l)) && eqb (length (afterDigits l)) 0
+onlyDigits l = ltb 0 (length (leadingDigits l)) && eqb (length (afterDigits l)) 0
 
 abbrev pub written : List ℕ → Option ℕ
 written l = cond (onlyDigits l) (some (valueFrom 0 l)) none
@@ -53,8 +53,8 @@ upTo max (some v) l = cond (leb v max) (got v l) miss
 unfoldable pub fixed : ℕ → ℕ → Reader ℕ
 fixed n max l = cond (leb n (length l)) (upTo max (unsigned (take n l)) (drop n l)) miss
 
-abbrev pub two : Reader ℕ
-two = fixed 2 255
+abbrev pub twoBytes : Reader ℕ
+twoBytes = fixed 2 255
 
-abbrev pub three : Reader ℕ
-three = fixed 3 255
+abbrev pub threeBytes : Reader ℕ
+threeBytes = fixed 3 255

@@ -47,14 +47,14 @@ orNone (got a m) l = got (some a) m
 unfoldable pub opt : {A : Type 0} → Reader A → Reader (Option A)
 opt r l = orNone (r l) l
 
-abbrev pub orElse : {A : Type 0} → Parse A → Parse A → Parse A
-orElse miss q = q
-orElse (refuse f) q = refuse f
-orElse (got a l) q = got a l
+abbrev pub orTry : {A : Type 0} → Parse A → Parse A → Parse A
+orTry miss q = q
+orTry (refuse f) q = refuse f
+orTry (got a l) q = got a l
 
 -- nom's alt: one reader, or another where the first does not match
 unfoldable pub alt : {A : Type 0} → Reader A → Reader A → Reader A
-alt r q l = orElse (r l) (q l)
+alt r q l = orTry (r l) (q l)
 
 -- nom's map_res: what was read means something, or there is no match
 unfoldable pub orMiss : {A : Type 0} → Option A → Reader A

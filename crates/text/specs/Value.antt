@@ -1,5 +1,4 @@
 -- What is read of a whole text, where the text that is left does not matter.
-use mathlib.Core.List.{List}
 use Rattle.text.specs.Reader.{Fault, Parse, miss, refuse, got}
 
 pub data Value (A : Type 0) : Type 0 where

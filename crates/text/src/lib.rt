@@ -3,9 +3,9 @@
 ghost use mathlib.Core.Path.{_≡_};
 ghost use Rattle.text.specs.Reader.{char, oneOf, among, letterOf, opt, until};
 ghost use Rattle.text.specs.Placed.{Reads};
-ghost use Rattle.text.specs.Number.{number, two, three};
+ghost use Rattle.text.specs.Number.{number, twoBytes, threeBytes};
 ghost use Rattle.text.specs.Units.{unit, leadUnit};
-ghost use Rattle.text.specs.Answer.{whole, next, part, lettered, field};
+ghost use Rattle.text.specs.Answer.{wholeAt, next, part, lettered, field};
 
 // The next place, or no match.
 pub enum Next {
@@ -118,7 +118,7 @@ pub fn until(s: &[u8], at: usize, b: u8) -> Next
 
 // One or more digits that write a number up to `max`.
 pub fn number(s: &[u8], at: usize, max: u32) -> Whole
-    ensures { λ r. ⌜ Reads (now (s .entry)) at (number max) (whole r) × (now (s .exit) ≡ now (s .entry)) ⌝ }
+    ensures { λ r. ⌜ Reads (now (s .entry)) at (number max) (wholeAt r) × (now (s .exit) ≡ now (s .entry)) ⌝ }
 {
     if s.len() <= at {
         return Whole::No;
@@ -185,7 +185,7 @@ fn lead_unit(b: u8) -> u32
 
 // Two bytes: digits, or `+` and a digit.
 pub fn two(s: &[u8], at: usize) -> Whole
-    ensures { λ r. ⌜ Reads (now (s .entry)) at two (whole r) × (now (s .exit) ≡ now (s .entry)) ⌝ }
+    ensures { λ r. ⌜ Reads (now (s .entry)) at twoBytes (wholeAt r) × (now (s .exit) ≡ now (s .entry)) ⌝ }
 {
     if s.len() < 2 {
         return Whole::No;
@@ -206,7 +206,7 @@ pub fn two(s: &[u8], at: usize) -> Whole
 
 // Three bytes: digits, or `+` and digits, up to 255.
 pub fn three(s: &[u8], at: usize) -> Whole
-    ensures { λ r. ⌜ Reads (now (s .entry)) at three (whole r) × (now (s .exit) ≡ now (s .entry)) ⌝ }
+    ensures { λ r. ⌜ Reads (now (s .entry)) at threeBytes (wholeAt r) × (now (s .exit) ≡ now (s .entry)) ⌝ }
 {
     if s.len() < 3 {
         return Whole::No;

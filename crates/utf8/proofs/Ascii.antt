@@ -10,7 +10,7 @@ use lib.Dec.{ltb}
 use lib.ListN.{length, drop, getD, drop-of-length-le}
 use borrow.Author.Tests.{ltb-true, ltb-false, lt-ltb, le-ltb}
 use Rattle.utf8.specs.Rfc3629.{utf8-char}
-use Rattle.utf8.specs.Utf8.{step, after, whole, utf8, ascii}
+use Rattle.utf8.specs.Utf8.{step, after, mayEnd, utf8, ascii}
 use Rattle.utf8.proofs.Table.{regional}
 use Rattle.utf8.proofs.Pieces.{here}
 
@@ -24,7 +24,7 @@ ascii-whole (b ∷ l) e =
 
 -- an ASCII text is valid
 pub ascii-utf8 : (l : List ℕ) → ascii l ≡ true → utf8 l ≡ true
-ascii-utf8 l e = ap whole (ascii-whole l e)
+ascii-utf8 l e = ap mayEnd (ascii-whole l e)
 
 -- two octets are below a bound where the larger is
 both-low : (a b c : ℕ) → (ltb a c && ltb b c) ≡ ltb (max a b) c

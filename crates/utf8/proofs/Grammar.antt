@@ -6,7 +6,7 @@ use mathlib.Core.List.{List, [], _∷_, _++_, List·Memᴰ}
 use mathlib.Core.Option.{none, some}
 use mathlib.Core.Bool.{Bool, true, false, cond, false≢true}
 use Rattle.utf8.specs.Rfc3629.{Range, utf8-char, Matches, end, octet, Octets, empty, char}
-use Rattle.utf8.specs.Utf8.{State, within, follow, step, after, whole, utf8}
+use Rattle.utf8.specs.Utf8.{State, within, follow, step, after, mayEnd, utf8}
 use Rattle.utf8.proofs.Ranges.{inside, bounds}
 use Rattle.utf8.proofs.Table.{region, regional, taken, All, of-row}
 use Rattle.utf8.proofs.Pieces.{after-append, stays-broken}
@@ -19,17 +19,17 @@ record Split (rs : List Range) (l : List ℕ) : Type 0 where
   matches : Matches rs front
   chars : Octets rest
 
-broken : (l : List ℕ) → whole (after none l) ≡ true → ⊥
-broken l e = false≢true (sym (ap whole (stays-broken l)) ∙ e)
+broken : (l : List ℕ) → mayEnd (after none l) ≡ true → ⊥
+broken l e = false≢true (sym (ap mayEnd (stays-broken l)) ∙ e)
 
-split : (l : List ℕ) (rs : List Range) → whole (after (some rs) l) ≡ true → Split rs l
+split : (l : List ℕ) (rs : List Range) → mayEnd (after (some rs) l) ≡ true → Split rs l
 unfolding after step
 split [] [] e = record { front = []; rest = []; joined = refl; matches = end; chars = empty }
 split [] (r ∷ rs) e = absurd (false≢true e)
 split (b ∷ l) [] e = by (follow utf8-char b) refl e (split l)
   where
-    by : (st : State) → follow utf8-char b ≡ st → whole (after st l) ≡ true
-        → ((rs : List Range) → whole (after (some rs) l) ≡ true → Split rs l) → Split [] (b ∷ l)
+    by : (st : State) → follow utf8-char b ≡ st → mayEnd (after st l) ≡ true
+        → ((rs : List Range) → mayEnd (after (some rs) l) ≡ true → Split rs l) → Split [] (b ∷ l)
     by none f e g = absurd (broken l e)
     by (some rs) f e g =
         let t = taken utf8-char b f in
@@ -44,8 +44,8 @@ split (b ∷ l) [] e = by (follow utf8-char b) refl e (split l)
         }
 split (b ∷ l) (r ∷ rs) e = by (within r b) refl e (split l rs)
   where
-    by : (t : Bool) → within r b ≡ t → whole (after (cond t (some rs) none) l) ≡ true
-        → (whole (after (some rs) l) ≡ true → Split rs l) → Split (r ∷ rs) (b ∷ l)
+    by : (t : Bool) → within r b ≡ t → mayEnd (after (cond t (some rs) none) l) ≡ true
+        → (mayEnd (after (some rs) l) ≡ true → Split rs l) → Split (r ∷ rs) (b ∷ l)
     by true w e g =
         let s = g e in
         let (low, high) = bounds r b w in

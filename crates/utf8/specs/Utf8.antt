@@ -32,14 +32,14 @@ after st [] = st
 after st (b ∷ l) = after (step st b) l
 
 -- whether no row is left open: only whole characters so far
-abbrev pub whole : State → Bool
-whole none = false
-whole (some []) = true
-whole (some (r ∷ rs)) = false
+abbrev pub mayEnd : State → Bool
+mayEnd none = false
+mayEnd (some []) = true
+mayEnd (some (r ∷ rs)) = false
 
 -- whether a text is UTF8-octets; `proofs/Grammar.antt` shows that it is this and nothing else
 abbrev pub utf8 : List ℕ → Bool
-utf8 l = whole (after (some []) l)
+utf8 l = mayEnd (after (some []) l)
 
 -- whether a text is US-ASCII: each octet is a UTF8-1, %x00-7F
 unfoldable pub ascii : List ℕ → Bool

@@ -5,7 +5,7 @@ ghost use mathlib.Core.Path.{_≡_};
 ghost use mathlib.Core.Bool.{cond};
 ghost use mathlib.Core.Option.{none};
 ghost use Rattle.utf8.specs.Rfc3629.{utf8-char};
-ghost use Rattle.utf8.specs.Utf8.{within, follow, step, whole, utf8, ascii};
+ghost use Rattle.utf8.specs.Utf8.{within, follow, step, mayEnd, utf8, ascii};
 ghost use Rattle.utf8.specs.Answer.{pending};
 
 // What the bytes so far leave open. Each of the nine is left by some bytes, and bytes leave no other; a text begins at `Whole`.
@@ -75,7 +75,7 @@ pub fn step(state: Utf8, b: u8) -> Utf8
 
 // Whether the bytes so far are whole characters alone: the text may end here.
 pub fn whole(state: Utf8) -> bool
-    ensures { λ r. ⌜ r ≡ whole (pending state) ⌝ }
+    ensures { λ r. ⌜ r ≡ mayEnd (pending state) ⌝ }
 {
     match state {
         Utf8::Whole => true,

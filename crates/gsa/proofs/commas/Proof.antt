@@ -8,7 +8,7 @@ use lib.ListN.{length, drop}
 use Rattle.text.specs.Bytes.{byte}
 use Rattle.text.specs.Answer.{next}
 use Rattle.text.proofs.Places.{a-read, stop, go}
-use Rattle.gsa.specs.Many.{takeWhile1, skip}
+use Rattle.text.specs.Many.{takeWhile1, skip}
 use Rattle.gsa.proofs.Ends.{skip-more, skip-stop, skip-end}
 use Rattle.gsa.proofs.commas.Statement.{statement}
 use Rattle.gsa.proofs.commas.Tie as tie

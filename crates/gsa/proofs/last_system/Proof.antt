@@ -2,7 +2,7 @@
 use mathlib.Core.Path.{refl}
 use Rattle.text.proofs.Places.{stop, go, done, done-as}
 use Rattle.text.proofs.Steps.{go-field}
-use Rattle.gsa.specs.Many.{allConsuming}
+use Rattle.text.specs.Many.{allConsuming}
 use Rattle.gsa.specs.Gsa.{lastSystem}
 use Rattle.gsa.proofs.Ends.{at-end, not-end}
 use borrow.Author.Needs.{needs}

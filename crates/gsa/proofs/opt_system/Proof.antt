@@ -1,6 +1,6 @@
 -- `opt_system` meets its contract: where the comma or the number after it is missing, nothing is eaten. Assumes nothing.
 use mathlib.Core.Path.{refl, ap}
-use Rattle.text.specs.Answer.{next, whole}
+use Rattle.text.specs.Answer.{next, wholeAt}
 use Rattle.text.proofs.Places.{stop, go, done, done-as, opt-some, opt-none}
 use Rattle.text.proofs.Steps.{go-next}
 use Rattle.gsa.specs.Gsa.{afterComma, optSystem}
@@ -36,7 +36,7 @@ unfolding optSystem afterComma
 returns-2 c =
     let n = c .before .before in
     let b = n .before .before in (
-      go _ (opt-none _ (go-next _ (b .digits .given .1) (b .before .before .byte .ensures .0) (n .number .ensures .0)) (ap whole (c .enum-told2 .given .1)))
+      go _ (opt-none _ (go-next _ (b .digits .given .1) (b .before .before .byte .ensures .0) (n .number .ensures .0)) (ap wholeAt (c .enum-told2 .given .1)))
           refl (done _ _ _),
       refl,
     )
@@ -50,7 +50,7 @@ returns-3 c =
     let v = c .before .before in
     let n = v .before .before in
     let b = n .before .before in (
-      go _ (opt-some _ (go-next _ (b .digits .given .1) (b .before .before .byte .ensures .0) (n .number .ensures .0)) (ap whole (v .n .given .1)))
+      go _ (opt-some _ (go-next _ (b .digits .given .1) (b .before .before .byte .ensures .0) (n .number .ensures .0)) (ap wholeAt (v .n .given .1)))
           refl (done-as (c .known .ensures)),
       refl,
     )

@@ -1,6 +1,6 @@
 -- `do_parse_gsv` meets its contract: three numbers, and four entries that may be absent. Assumes nothing.
 use mathlib.Core.Path.{refl, ap}
-use Rattle.text.specs.Answer.{whole}
+use Rattle.text.specs.Answer.{wholeAt}
 use Rattle.text.proofs.Places.{go}
 use denote.Ref.{now}
 use Rattle.text.proofs.Texts.{text-none, text-some}
@@ -65,7 +65,7 @@ returns-4 : tie.Need-returns-4
 unfolding gsv
 returns-4 c = (
   text-some (now (c .before .before .before .before .before .before .before .before .before .before .before .before .before .before .before .before .before .args .s)) gsv (c .opt-entry4 .result .at)
-      (go _ (c .before .before .before .before .before .before .before .before .before .before .before .before .before .before .before .counted .ensures .0) (ap whole (c .before .before .before .before .before .before .before .before .before .before .before .before .before .count .given .1)) (search steps depth 12)),
+      (go _ (c .before .before .before .before .before .before .before .before .before .before .before .before .before .before .before .counted .ensures .0) (ap wholeAt (c .before .before .before .before .before .before .before .before .before .before .before .before .before .count .given .1)) (search steps depth 12)),
   refl,
 )
 

@@ -2,7 +2,7 @@
 use mathlib.Core.Path.{refl, ap}
 use Rattle.text.specs.Answer.{next, lettered}
 use Rattle.text.proofs.Places.{go, done, opt-some, opt-none}
-use Rattle.rmc.specs.Rmc.{afterComma, ifComma}
+use Rattle.rmc.specs.Rmc.{optLetter, ifComma}
 use borrow.Author.Needs.{needs}
 use Rattle.rmc.proofs.after_comma.Statement.{statement}
 use Rattle.rmc.proofs.after_comma.Tie as tie
@@ -17,7 +17,7 @@ enum-told : tie.Need-enum-told
 enum-told c = search needs
 
 returns : tie.Need-returns
-unfolding afterComma ifComma
+unfolding optLetter ifComma
 returns c = (go _ (opt-none _ (c .before .before .byte .ensures .0) (ap next (c .enum-told .given .1))) refl (done _ _ _), refl, refl)
 
 one-among-requires : tie.Need-one-among-requires
@@ -30,13 +30,13 @@ enum-known-b : tie.Need-enum-known-b
 enum-known-b c = search needs
 
 returns-2 : tie.Need-returns-2
-unfolding afterComma ifComma
+unfolding optLetter ifComma
 returns-2 c =
     let comma = opt-some _ (c .before .before .before .before .before .before .byte .ensures .0) (ap next (c .before .before .before .before .next .given .1)) in
     (go _ comma refl (opt-none _ (c .before .before .one-among .ensures .0) (ap lettered (c .enum-told2 .given .1))), refl, refl)
 
 returns-3 : tie.Need-returns-3
-unfolding afterComma ifComma
+unfolding optLetter ifComma
 returns-3 c =
     let comma = opt-some _ (c .before .before .before .before .before .before .before .byte .ensures .0) (ap next (c .before .before .before .before .before .next .given .1)) in
     (go _ comma refl (opt-some _ (c .before .before .before .one-among .ensures .0) (ap lettered (c .before .b .given .1))), refl, refl)

@@ -1,6 +1,6 @@
 -- `fix_part` meets its contract: time, status and position. Assumes nothing.
 use mathlib.Core.Path.{refl}
-use Rattle.rmc.specs.Rmc.{fix}
+use Rattle.rmc.specs.Rmc.{fixPart}
 use Rattle.rmc.proofs.Steps.{parts}
 use borrow.Author.Needs.{needs}
 use Rattle.rmc.proofs.fix_part.Statement.{statement}
@@ -25,7 +25,7 @@ enum-told-2 : tie.Need-enum-told-2
 enum-told-2 c = search needs
 
 returns : tie.Need-returns
-unfolding fix
+unfolding fixPart
 returns c = (search parts depth 14, refl)
 
 position-place-requires : tie.Need-position-place-requires
@@ -47,27 +47,27 @@ enum-told-6 : tie.Need-enum-told-6
 enum-told-6 c = search needs
 
 returns-2 : tie.Need-returns-2
-unfolding fix
+unfolding fixPart
 returns-2 c = (search parts depth 14, refl)
 
 returns-3 : tie.Need-returns-3
-unfolding fix
+unfolding fixPart
 returns-3 c = (search parts depth 14, refl)
 
 returns-4 : tie.Need-returns-4
-unfolding fix
+unfolding fixPart
 returns-4 c = (search parts depth 14, refl)
 
 returns-5 : tie.Need-returns-5
-unfolding fix
+unfolding fixPart
 returns-5 c = (search parts depth 14, refl)
 
 returns-6 : tie.Need-returns-6
-unfolding fix
+unfolding fixPart
 returns-6 c = (search parts depth 14, refl)
 
 returns-7 : tie.Need-returns-7
-unfolding fix
+unfolding fixPart
 returns-7 c = (search parts depth 14, refl)
 
 pub fix-part-spec : {M : Type 1} → statement M

@@ -1,7 +1,7 @@
 -- `read::opt_number` meets its contract. Assumes nothing.
 use borrow.Author.Needs.{needs}
 use mathlib.Core.Path.{refl, ap}
-use Rattle.text.specs.Answer.{whole}
+use Rattle.text.specs.Answer.{wholeAt}
 use Rattle.text.proofs.Places.{opt-some, opt-none}
 use Rattle.text.proofs.opt_number.Statement.{statement}
 use Rattle.text.proofs.opt_number.Tie as tie
@@ -19,10 +19,10 @@ enum-told : tie.Need-enum-told
 enum-told c = search needs
 
 returns : tie.Need-returns
-returns c = (opt-some _ (c .before .before .before .number .ensures .0) (ap whole (c .before .v .given .1)), refl)
+returns c = (opt-some _ (c .before .before .before .number .ensures .0) (ap wholeAt (c .before .v .given .1)), refl)
 
 returns-2 : tie.Need-returns-2
-returns-2 c = (opt-none _ (c .before .before .number .ensures .0) (ap whole (c .enum-told .given .1)), refl)
+returns-2 c = (opt-none _ (c .before .before .number .ensures .0) (ap wholeAt (c .enum-told .given .1)), refl)
 
 pub opt-number-spec : {M : Type 1} → statement M
 opt-number-spec = tie.close (tie.spec number-requires enum-known-v enum-told returns returns-2)

@@ -8,7 +8,7 @@ use mathlib.Core.List.{[]}
 use mathlib.Core.Option.{some}
 use denote.Ref.{now}
 use lib.ListN.{length, drop}
-use Rattle.utf8.specs.Utf8.{after, whole}
+use Rattle.utf8.specs.Utf8.{after, mayEnd}
 use Rattle.utf8.specs.Answer.{pending}
 use Rattle.utf8.proofs.Pieces.{one-more, no-more}
 use Rattle.utf8.proofs.is_utf8.Statement.{statement}
@@ -48,7 +48,7 @@ returns : tie.Need-returns Inv-loop μ-loop
 returns c =
     let k = c .before in
     let text = now (k .before .before .before .args .s) in
-    (c .whole .ensures ∙ sym (ap whole (k .before .loop .inv .1 ∙ no-more text _ _ (k .loop-test .left))), refl)
+    (c .whole .ensures ∙ sym (ap mayEnd (k .before .loop .inv .1 ∙ no-more text _ _ (k .loop-test .left))), refl)
 
 pub is-utf8-spec : {M : Type 1} → statement M
 is-utf8-spec =

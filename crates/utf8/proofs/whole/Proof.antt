@@ -7,7 +7,7 @@ use Prim.Native.Nat.{ℕ}
 use mathlib.Core.Path.{_≡_, refl}
 use mathlib.Core.Bool.{false}
 use mathlib.Core.List.{List, [], _∷_}
-use Rattle.utf8.specs.Utf8.{whole}
+use Rattle.utf8.specs.Utf8.{mayEnd}
 use Rattle.utf8.specs.Answer.{pending}
 use Rattle.utf8.specs.declared.Utf8.{Utf8}
 use Rattle.utf8.specs.declared.Utf8.the-variants.{Whole, Broken, Tail1, Tail2, Tail3, AfterE0, AfterED, AfterF0, AfterF4}
@@ -19,7 +19,7 @@ use Rattle.utf8.proofs.whole.Tie as tie
 abbrev others : List ℕ
 others = 1 ∷ 2 ∷ 3 ∷ 4 ∷ 5 ∷ 6 ∷ 7 ∷ 8 ∷ []
 
-other : (u : Utf8) → OneOf others (tagOf the-type u) → false ≡ whole (pending u)
+other : (u : Utf8) → OneOf others (tagOf the-type u) → false ≡ mayEnd (pending u)
 other Whole k = absurd (miss others 0 tt k)
 other Broken k = refl
 other Tail1 k = refl

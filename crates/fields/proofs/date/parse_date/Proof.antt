@@ -1,7 +1,7 @@
 -- `parse_date` meets its contract: three numbers, and what the calendar says of them. Assumes nothing.
 use Prim.Native.Nat.{ℕ}
 use mathlib.Core.Path.{refl, ap, _∙_}
-use Rattle.text.specs.Answer.{whole}
+use Rattle.text.specs.Answer.{wholeAt}
 use Rattle.text.proofs.Places.{took}
 use Rattle.text.proofs.Fixed.{fixed-limit}
 use Rattle.fields.specs.Date.{date, dateOf}
@@ -50,7 +50,7 @@ unfolding date
 returns-3 c = (search steps depth 12, refl)
 
 full-year-requires : tie.Need-full-year-requires
-full-year-requires c κs = fixed-limit 2 _ (took (c .before .before .before .two3 .ensures .0) (ap whole (c .before .year .given .1)) .reads)
+full-year-requires c κs = fixed-limit 2 _ (took (c .before .before .before .two3 .ensures .0) (ap wholeAt (c .before .year .given .1)) .reads)
 
 on-calendar-requires : tie.Need-on-calendar-requires
 on-calendar-requires c κs = search needs

@@ -1,7 +1,7 @@
 -- `longitude` meets its contract: degrees, and a side. Assumes nothing.
 use native.Mathlib.Omega.{arith}
 use mathlib.Core.Path.{refl, ap}
-use Rattle.text.specs.Answer.{whole}
+use Rattle.text.specs.Answer.{wholeAt}
 use Rattle.text.proofs.Places.{took}
 use Rattle.text.proofs.Fixed.{fixed-limit}
 use Rattle.fields.specs.Position.{longitude}
@@ -24,7 +24,7 @@ unfolding longitude
 returns c = (search steps depth 14, refl)
 
 cast-side : tie.Need-cast-side
-cast-side c = omega (arith, fixed-limit 3 _ (took (c .before .before .before .three .ensures .0) (ap whole (c .before .deg .given .1)) .reads))
+cast-side c = omega (arith, fixed-limit 3 _ (took (c .before .before .before .three .ensures .0) (ap wholeAt (c .before .deg .given .1)) .reads))
 
 side-requires : tie.Need-side-requires
 side-requires c κs = search needs

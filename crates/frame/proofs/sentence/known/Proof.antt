@@ -8,28 +8,28 @@ use mathlib.Core.List.{[]}
 use lib.ListN.{drop}
 use borrow.Author.Needs.{needs}
 use Rattle.text.specs.Bytes.{bytes}
-use Rattle.frame.specs.Types.{types, alike, among}
+use Rattle.frame.specs.Types.{types, alike, listed}
 use Rattle.frame.specs.Answer.{letters}
 use Rattle.frame.proofs.Texts.{found, not-here, nowhere, as-one}
 use Rattle.frame.proofs.sentence.known.Statement.{statement}
 use Rattle.frame.proofs.sentence.known.Tie as tie
 
 abbrev Inv-loop : tie.InvT-loop
-Inv-loop kind table i₀ i = (i ≤ 30) × (table ≡ types) × (among types (letters kind) ≡ among (drop i types) (letters kind))
+Inv-loop kind table i₀ i = (i ≤ 30) × (table ≡ types) × (listed types (letters kind) ≡ listed (drop i types) (letters kind))
 
 abbrev μ-loop : tie.MeasureT-loop
 μ-loop kind table i₀ i = 30 - i
 
-known-gsv : among types (bytes "GSV") ≡ true
-unfolding types among alike
+known-gsv : listed types (bytes "GSV") ≡ true
+unfolding types listed alike
 known-gsv = refl
 
-known-gsa : among types (bytes "GSA") ≡ true
-unfolding types among alike
+known-gsa : listed types (bytes "GSA") ≡ true
+unfolding types listed alike
 known-gsa = refl
 
-known-rmc : among types (bytes "RMC") ≡ true
-unfolding types among alike
+known-rmc : listed types (bytes "RMC") ≡ true
+unfolding types listed alike
 known-rmc = refl
 
 same-requires : tie.Need-same-requires Inv-loop μ-loop

@@ -1,9 +1,9 @@
-use Prim.Native.Nat.{ℕ, _+_, _≤_}
+use Prim.Native.Nat.{_+_, _≤_}
 use mathlib.Core.Path.{_≡_}
 use native.Mathlib.Omega.{arith}
 use lib.ListN.{length}
 use Rattle.short.specs.Digits.{digitsOf}
-use Rattle.short.proofs.Digits.{few-digits, some-digit, digit-one, count-tenth}
+use Rattle.short.proofs.Digits.{few-digits, some-digit, count-tenth}
 use Rattle.gather.proofs.Greedy.{one}
 use Rattle.gather.proofs.lent.digits.Statement.{statement}
 use Rattle.gather.proofs.lent.digits.Tie as tie

@@ -1,10 +1,10 @@
-use Prim.Native.Nat.{ℕ, _+_, _-_, _≤_}
-use mathlib.Core.Path.{_≡_, refl, ap, sym, _∙_}
+use Prim.Native.Nat.{ℕ, _-_, _≤_}
+use mathlib.Core.Path.{_≡_, ap, _∙_}
 use native.Mathlib.Omega.{arith}
 use borrow.Author.Needs.{needs}
-use lib.ListN.{length, take, drop}
+use lib.ListN.{length, take}
 use Rattle.short.specs.Digits.{digitsOf}
-use Rattle.pack.specs.Cut.{more, pieceCount}
+use Rattle.pack.specs.Cut.{pieceCount}
 use Rattle.gather.specs.Lent.{sizeOf}
 use Rattle.gather.proofs.Greedy.{Small, Packing, start, small-turn, pack-turn, pack-end}
 use Rattle.gather.proofs.lent.pieces.Statement.{statement}

@@ -1,5 +1,4 @@
 use borrow.Author.Tests.{le-leb, lt-leb}
-use mathlib.Core.Path.{_≡_, refl, ap, sym, _∙_}
 use Rattle.gather.proofs.Tests.{failed, passed}
 use borrow.Author.Needs.{needs}
 use Rattle.gather.proofs.lent.row_stands.Statement.{statement}

@@ -1,8 +1,8 @@
 -- `gather::add` meets its contract. The loop's invariant: out is sats with the first j of more at count. Assumes nothing.
-use Prim.Native.Nat.{ℕ, _≤_, _-_, _+_, suc}
+use Prim.Native.Nat.{_≤_, _-_, _+_}
 use native.Mathlib.Omega.{arith}
 use native.Mathlib.Numerals.{add-one}
-use mathlib.Core.Path.{_≡_, refl, ap, sym, _∙_}
+use mathlib.Core.Path.{_≡_, ap, sym, _∙_}
 use mathlib.Core.List.{List}
 use lib.ListN.{length, set, getD}
 use lib.Seq.{paste, paste-zero, paste-suc}

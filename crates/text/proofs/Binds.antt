@@ -1,13 +1,45 @@
--- What was read by two readers, or by one that may not match, was read by each in turn: only `got` leads to `got`. Assumes nothing.
-use Prim.Native.Nat.{ℕ}
+-- One reader and then another: what both read, by what the first reads; and what each of them read, where both did. Assumes nothing.
+use Prim.Native.Nat.{ℕ, suc}
 use native.Mathlib.Omega.{arith}
 use mathlib.Core.Path.{_≡_, refl, ap, subst₂}
 use mathlib.Core.Bool.{Bool, true, false, cond}
 use mathlib.Core.List.{List, [], _∷_}
 use mathlib.Core.Option.{Option, none, some}
 use lib.Dec.{eqb}
-use borrow.Author.Tests.{eqb-true}
-use Rattle.text.specs.Reader.{Parse, miss, refuse, got, Reader, after, _>>=_, pure, opt, orNone, char}
+use lib.ListN.{length}
+use borrow.Author.Tests.{eqb-true, eq-eqb, ne-eqb}
+use Rattle.text.specs.Reader.{Fault, Parse, miss, refuse, got, Reader, after, _>>=_, pure, opt, orNone, char}
+
+module _ {A B : Type 0} (q : Reader A) (k : A → Reader B) (l : List ℕ) where
+  pub bind-miss : q l ≡ miss → (q >>= k) l ≡ miss
+  unfolding _>>=_
+  bind-miss e = rw e
+
+  pub bind-refuse : {f : Fault} → q l ≡ refuse f → (q >>= k) l ≡ refuse f
+  unfolding _>>=_
+  bind-refuse e = rw e
+
+  pub bind-got : {a : A} {m : List ℕ} → q l ≡ got a m → (q >>= k) l ≡ k a m
+  unfolding _>>=_
+  bind-got e = rw e
+
+module _ (c : ℕ) where
+  pub char-here : (l : List ℕ) → char c (c ∷ l) ≡ got tt l
+  unfolding char
+  char-here l = rw (eq-eqb c c refl)
+
+  pub char-other : (b : ℕ) (l : List ℕ) → (b ≡ c → ⊥) → char c (b ∷ l) ≡ miss
+  unfolding char
+  char-other b l n = rw (ne-eqb b c n)
+
+  -- a text that misses after its first byte
+  pub miss-after : {B : Type 0} (k : Unit {0} → Reader B) (b : ℕ) (l : List ℕ) → k tt l ≡ miss → (char c >>= k) (b ∷ l) ≡ miss
+  unfolding _>>=_ char
+  miss-after k b l e = by (eqb b c)
+    where
+      by : (t : Bool) → after (cond t (got tt l) miss) k ≡ miss
+      by true = e
+      by false = refl
 
 module _ {A B : Type 0} where
   -- the one and then the other
@@ -67,3 +99,7 @@ char-eats c (b ∷ l) {u} {m} e = by (eqb b c) refl e
         let y : l ≡ m = cc in
         cc
     by false f e = let z : _≡_ {A = ℕ} 0 1 = cc in absurd (omega arith)
+
+-- one byte was read
+pub char-one : (c : ℕ) (l m : List ℕ) → char c l ≡ got tt m → length l ≡ suc (length m)
+char-one c l m e = ap length (char-eats c l e)

@@ -1,10 +1,10 @@
--- Readers that `text` lacks, as nom has them: again and again, and to the end.
+-- Again and again, and to the end, as nom has them.
 use Prim.Native.Nat.{ℕ, zero, suc}
 use mathlib.Core.List.{List, [], _∷_}
 use mathlib.Core.Bool.{cond, _||_}
 use lib.ListN.{length}
 use lib.Dec.{eqb}
-use Rattle.text.specs.Reader.{Parse, miss, refuse, got, Reader, prepend, _>>=_, _>>_, pure, char}
+use Rattle.text.specs.Reader.{Parse, miss, refuse, got, Reader, prepend, pure, char, _>>=_, _>>_}
 
 abbrev pub again : {A : Type 0} → Parse A → List ℕ → Reader (List A) → Parse (List A)
 again miss l k = got [] l

@@ -7,4 +7,3 @@ pub mod Systems
 pub mod Answered
 pub mod Worked
 pub mod Laws
-pub mod Only

@@ -1,3 +1,9 @@
 pub mod Laws
+pub mod Utf8
 pub mod Text
 pub mod Decimal
+pub mod Fields
+pub mod Frame
+pub mod Gsv
+pub mod Gsa
+pub mod Rmc

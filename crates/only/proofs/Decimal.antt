@@ -7,7 +7,7 @@ use lib.Ieee.{Float, binary32, binary64}
 use Rattle.text.specs.Placed.{Placed, unread, refused, upto, Reads}
 use Rattle.decimal.specs.Bits.{bitsOf}
 use Rattle.decimal.specs.Places.{Short, Long, shortDecimal, longDecimal}
-use Rattle.decimal.specs.Answer.{aShort, shortAt, aLong, longAt}
+use Rattle.decimal.specs.Answer.{shortAt, longAt}
 use Rattle.decimal.specs.declared.ShortDecimal.{ShortDecimal}
 use Rattle.decimal.specs.declared.ShortAt.{ShortAt}
 use Rattle.decimal.specs.declared.ShortAt.the-variants.{Absent as NoShort, Is as AShort, Number as NotShort}
@@ -16,11 +16,9 @@ use Rattle.decimal.specs.declared.LongAt.{LongAt}
 use Rattle.decimal.specs.declared.LongAt.the-variants.{Absent as NoLong, Is as ALong, Number as NotLong}
 use Rattle.only.proofs.Laws.{same, undone, reads}
 
+-- a struct has the fields of what it means, so `refl` undoes it
 abbrev pub short-of : Short → ShortDecimal
 short-of d = record { whole = d .whole; decimals = d .decimals; value = d .value }
-
-pub short-is : (d : ShortDecimal) → short-of (aShort d) ≡ d
-short-is d = refl
 
 short-at : Placed (Option Short) → ShortAt
 short-at unread = NotShort
@@ -34,7 +32,7 @@ short-at-is NotShort = refl
 short-at-is (NoShort p) = refl
 short-at-is (AShort d p) = refl
 
-long-of : Long → LongDecimal
+abbrev long-of : Long → LongDecimal
 long-of d = record { size = d .size; decimals = d .decimals; billionths = d .billionths; value = d .value }
 
 long-at : Placed (Option Long) → LongAt
@@ -44,7 +42,7 @@ long-at (upto none p) = NoLong p
 long-at (upto (some d) p) = ALong (long-of d) p
 
 long-at-is : (r : LongAt) → long-at (longAt r) ≡ r
-unfolding long-at long-of
+unfolding long-at
 long-at-is NotLong = refl
 long-at-is (NoLong p) = refl
 long-at-is (ALong d p) = refl

@@ -10,7 +10,7 @@ use Rattle.fields.specs.Time.{Time, hms, optHms}
 use Rattle.fields.specs.Date.{Date, date, optDate}
 use Rattle.fields.specs.Position.{Position, LatLon, doLatLon, latLon}
 use Rattle.fields.specs.Variation.{doVariation, variation}
-use Rattle.fields.specs.Answer.{timeOfDay, timeRead, timeAt, dayOf, dateRead, dateAt, both, bothAt, placeAt, magneticAt, variationAt}
+use Rattle.fields.specs.Answer.{timeRead, timeAt, dateRead, dateAt, bothAt, placeAt, magneticAt, variationAt}
 use Rattle.fields.specs.declared.time.TimeOfDay.{TimeOfDay}
 use Rattle.fields.specs.declared.time.TimeRead.{TimeRead}
 use Rattle.fields.specs.declared.time.TimeRead.the-variants.{No as NoTime, Is as ATime, Number as TimeNumber, BadTime as TimeBad}
@@ -34,7 +34,6 @@ use Rattle.fields.specs.declared.variation.VariationAt.the-variants.{No as NoVa
 use Rattle.only.proofs.Laws.{undone, reads}
 use Rattle.only.proofs.Decimal.{short-of}
 
--- a struct has the fields of what it means, so these undo it by `refl`
 abbrev pub time-of : Time → TimeOfDay
 time-of t = record { hour = t .hour; minute = t .minute; second = t .second; nanosecond = t .nanosecond }
 

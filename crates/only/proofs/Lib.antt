@@ -7,3 +7,7 @@ pub mod Frame
 pub mod Gsv
 pub mod Gsa
 pub mod Rmc
+pub mod Sentence
+pub mod Gather
+pub mod Log
+pub mod Capi

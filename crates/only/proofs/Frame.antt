@@ -17,7 +17,7 @@ use Rattle.frame.specs.Types.{types, among}
 use Rattle.frame.specs.Checksum as Checksum
 use Rattle.frame.specs.Frame.{Parts, Outcome, accepted, checksumField, frame, dataIn}
 use Rattle.frame.specs.Frame.{refused as refusal}
-use Rattle.frame.specs.Answer.{talkerBytes, letters, refused, numberOf, dataOf, field, framed}
+use Rattle.frame.specs.Answer.{letters, refused, numberOf, dataOf, field, framed}
 use Rattle.frame.specs.declared.refusal.Talker.{Talker}
 use Rattle.frame.specs.declared.refusal.Kind.{Kind}
 use Rattle.frame.specs.declared.refusal.Refusal.{Refusal}

@@ -5,7 +5,6 @@ use mathlib.Core.List.{List}
 use mathlib.Core.Option.{Option, none, some}
 use lib.ListN.{take}
 use Rattle.frame.specs.Refused.{Refused}
-use Rattle.frame.specs.declared.refusal.Refusal.{Refusal}
 use Rattle.frame.specs.declared.refusal.Refusal.the-variants.{Syntax}
 use Rattle.sentence.specs.Sentence.{Answer, isRmc, isGsa, isGsv, isOther, isRefused, GsaSentence, GsvSentence, answer, parseRmc, parseGsa, parseGsv, verdictOf}
 use Rattle.sentence.specs.Answer.{rmcLine, gsvSentence, gsvLine, gsaSentence, gsaFound, recordOf, SaysGsa, Says, verdict}

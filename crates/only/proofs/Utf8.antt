@@ -5,7 +5,6 @@ use mathlib.Core.Bool.{Bool, cond}
 use mathlib.Core.List.{List, [], _∷_}
 use mathlib.Core.Option.{none, some}
 use lib.Dec.{eqb}
-use Rattle.utf8.specs.Rfc3629.{Range}
 use Rattle.utf8.specs.Utf8.{State, utf8, ascii}
 use Rattle.utf8.specs.Utf8 as Spec
 use Rattle.utf8.specs.Answer.{pending}

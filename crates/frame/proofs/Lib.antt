@@ -12,5 +12,4 @@ pub mod Shape
 pub mod Judged
 pub mod OneByte
 pub mod Worked
-pub mod Only
 pub mod Within

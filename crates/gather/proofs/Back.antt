@@ -16,7 +16,7 @@ use Rattle.gsv.specs.declared.Slot.the-variants.{Empty, Seen}
 use Rattle.gather.specs.Cells.{known, cell, noSat, fourOf, pushed}
 use Rattle.gather.specs.declared.line.Four.{Four}
 
-held-back : (h : Held) → known (held h) ≡ h
+pub held-back : (h : Held) → known (held h) ≡ h
 held-back Absent = refl
 held-back (Known n) = refl
 
@@ -24,7 +24,7 @@ known-back : (o : Option ℕ) → held (known o) ≡ o
 known-back none = refl
 known-back (some n) = refl
 
-back : (t : SatInfo) → cell (satellite t) ≡ t
+pub back : (t : SatInfo) → cell (satellite t) ≡ t
 back t =
     λ i.
     record {

@@ -30,7 +30,7 @@ key-below glonass = omega arith
 key-below navic = omega arith
 key-below qzss = omega arith
 
-type-back : (t : GnssType) → typeOf (gnss t) ≡ t
+pub type-back : (t : GnssType) → typeOf (gnss t) ≡ t
 type-back Beidou = refl
 type-back Galileo = refl
 type-back Gps = refl

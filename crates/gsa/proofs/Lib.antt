@@ -6,4 +6,3 @@ pub mod Steps
 pub mod Systems
 pub mod Answered
 pub mod Worked
-pub mod Only

@@ -1,0 +1,43 @@
+-- No second answer of `capi`: neither another number nor another buffer after the call. Assumes nothing.
+use Prim.Native.Nat.{ℕ, _≤_, _<_}
+use mathlib.Core.Path.{_≡_, refl}
+use mathlib.Core.Bool.{Bool, true, false}
+use mathlib.Core.List.{List}
+use lib.Dec.{ltb}
+use lib.ListN.{length}
+use borrow.Author.Tests.{ltb-true, ltb-false}
+use Rattle.sentence.specs.Sentence.{answer}
+use Rattle.gather.specs.Table.{freshGatherer}
+use Rattle.log.specs.Walk.{Walk, barred, went, walkOf}
+use Rattle.capi.specs.Layout.{refusalNumber}
+use Rattle.capi.specs.Answer.{Answered}
+use Rattle.capi.specs.Totals.{Tells, WalkedAll}
+use Rattle.only.proofs.Laws.{same}
+
+-- each contract has two cases: the buffer has room for k words, or not
+by-room : {P : Type 0} (k n : ℕ) → (k ≤ n → P) → (n < k → P) → P
+by-room {P} k n room short = by (ltb n k) refl
+  where
+    by : (t : Bool) → ltb n k ≡ t → P
+    by true e = short (ltb-true n k e)
+    by false e = room (ltb-false n k e)
+
+both : {a r q : ℕ} {b l m : List ℕ} → (r ≡ a) × (l ≡ b) → (q ≡ a) × (m ≡ b) → (r ≡ q) × (l ≡ m)
+both x y = (same (x .0) (y .0), same (x .1) (y .1))
+
+tells : (w : Walk) (before : List ℕ) {r q : ℕ} {l m : List ℕ} → Tells w before l r → Tells w before m q → (r ≡ q) × (l ≡ m)
+tells (barred x) before = both
+tells (went c) before = both
+
+pub nmea-refusal : (line : List ℕ) {r q : ℕ} → r ≡ refusalNumber (answer line) → q ≡ refusalNumber (answer line) → r ≡ q
+nmea-refusal line = same
+
+pub nmea-answer : (line before : List ℕ) {l m : List ℕ} {r q : ℕ} → Answered line before l r → Answered line before m q → (r ≡ q) × (l ≡ m)
+nmea-answer line before x y =
+    by-room 40 (length before) (λ h. both (x .written h) (y .written h)) (λ h. both (x .short h) (y .short h))
+
+pub nmea-walk : (log before : List ℕ) {l m : List ℕ} {r q : ℕ} → WalkedAll log before l r → WalkedAll log before m q → (r ≡ q) × (l ≡ m)
+nmea-walk log before x y =
+    by-room 5 (length before)
+    (λ h. tells (walkOf log 0 (length log) freshGatherer .answer) before (x .written h) (y .written h))
+    (λ h. both (x .short h) (y .short h))

@@ -1,0 +1,13 @@
+pub mod Laws
+pub mod Utf8
+pub mod Text
+pub mod Decimal
+pub mod Fields
+pub mod Frame
+pub mod Gsv
+pub mod Gsa
+pub mod Rmc
+pub mod Sentence
+pub mod Gather
+pub mod Log
+pub mod Capi

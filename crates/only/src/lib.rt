@@ -1,0 +1,1 @@
+// No second answer meets a contract: see proofs/.

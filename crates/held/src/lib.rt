@@ -1,0 +1,63 @@
+// The framed sentence as a struct that holds its data, a part of the caller's line.
+ghost use mathlib.Core.Path.{_≡_};
+ghost use mathlib.Core.List.{_++_, _∷_};
+ghost use Rattle.text.specs.Bytes.{byte};
+ghost use Rattle.frame.specs.Checksum.{checksum};
+ghost use Rattle.frame.specs.Answer.{talkerBytes, letters, dataOf};
+ghost use Rattle.held.specs.Calculated.{sumOf};
+use frame::Framed;
+use frame::Kind;
+use frame::Refusal;
+use frame::Sentence;
+use frame::Talker;
+
+pub struct NmeaSentence<'a> {
+    pub talker: Talker,
+    pub kind: Kind,
+    pub checksum: u8,
+    // Up to the `*`.
+    pub data: &'a [u8],
+}
+
+// The exclusive or of talker, type, comma and data.
+pub fn sum_of(talker: Talker, kind: Kind, text: &[u8]) -> u8
+    ensures { λ r. ⌜ (r ≡ sumOf talker kind (now (text .entry))) × (now (text .exit) ≡ now (text .entry)) ⌝ }
+{
+    let head = talker.0 ^ talker.1 ^ kind.0 ^ kind.1 ^ kind.2 ^ b',';
+    head ^ frame::checksum(text, 0, text.len())
+}
+
+// A sentence that framing found in the line.
+pub fn nmea_sentence<'a>(line: &'a [u8], framed: Sentence) -> NmeaSentence<'a>
+    ensures { λ r. ⌜ (r .talker ≡ framed .talker) × (r .kind ≡ framed .kind) × (r .checksum ≡ framed .checksum) × (now (r .data) ≡ dataOf framed (now (line .entry))) ⌝ }
+{
+    NmeaSentence {
+        talker: framed.talker,
+        kind: framed.kind,
+        checksum: framed.checksum,
+        data: framed.data(line),
+    }
+}
+
+impl<'a> NmeaSentence<'a> {
+    // The data handed back.
+    pub fn data(self) -> &'a [u8]
+        ensures { λ r. ⌜ r ≡ self .entry .data ⌝ }
+    {
+        self.data
+    }
+
+    // What the checksum should be.
+    pub fn calc_checksum(self) -> u8
+        ensures { λ r. ⌜ r ≡ sumOf (self .entry .talker) (self .entry .kind) (now (self .entry .data)) ⌝ }
+    {
+        sum_of(self.talker, self.kind, self.data)
+    }
+}
+
+// The same from a line and its sentence.
+pub fn line_checksum(line: &[u8], framed: Sentence) -> u8
+    ensures { λ r. ⌜ r ≡ sumOf (framed .talker) (framed .kind) (dataOf framed (now (line .entry))) ⌝ }
+{
+    nmea_sentence(line, framed).calc_checksum()
+}

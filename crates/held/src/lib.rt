@@ -29,7 +29,7 @@ pub fn sum_of(talker: Talker, kind: Kind, text: &[u8]) -> u8
 
 // A sentence that framing found in the line.
 pub fn nmea_sentence<'a>(line: &'a [u8], framed: Sentence) -> NmeaSentence<'a>
-    ensures { λ r. ⌜ (r .talker ≡ framed .talker) × (r .kind ≡ framed .kind) × (r .checksum ≡ framed .checksum) × (now (r .data) ≡ dataOf framed (now (line .entry))) ⌝ }
+    ensures { λ r. ⌜ (r .talker ≡ framed .talker) × (r .kind ≡ framed .kind) × (r .checksum ≡ framed .checksum) × (now (r .data) ≡ dataOf framed (now (line .entry))) × (now (line .exit) ≡ now (line .entry)) ⌝ }
 {
     NmeaSentence {
         talker: framed.talker,

@@ -57,7 +57,7 @@ impl<'a> NmeaSentence<'a> {
 
 // The same from a line and its sentence.
 pub fn line_checksum(line: &[u8], framed: Sentence) -> u8
-    ensures { λ r. ⌜ r ≡ sumOf (framed .talker) (framed .kind) (dataOf framed (now (line .entry))) ⌝ }
+    ensures { λ r. ⌜ (r ≡ sumOf (framed .talker) (framed .kind) (dataOf framed (now (line .entry)))) × (now (line .exit) ≡ now (line .entry)) ⌝ }
 {
     nmea_sentence(line, framed).calc_checksum()
 }

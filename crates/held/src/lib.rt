@@ -1,10 +1,9 @@
 // The framed sentence as a struct that holds its data, a part of the caller's line.
 ghost use mathlib.Core.Path.{_≡_};
-ghost use mathlib.Core.List.{_++_, _∷_};
-ghost use Rattle.text.specs.Bytes.{byte};
-ghost use Rattle.frame.specs.Checksum.{checksum};
-ghost use Rattle.frame.specs.Answer.{talkerBytes, letters, dataOf};
-ghost use Rattle.held.specs.Calculated.{sumOf};
+ghost use Rattle.frame.specs.Frame.{frame};
+ghost use Rattle.frame.specs.Answer.{dataOf};
+ghost use Rattle.held.specs.Calculated.{sumOf, sumIn};
+ghost use Rattle.held.specs.Answer.{summed};
 use frame::Framed;
 use frame::Kind;
 use frame::Refusal;
@@ -42,22 +41,38 @@ pub fn nmea_sentence<'a>(line: &'a [u8], framed: Sentence) -> NmeaSentence<'a>
 impl<'a> NmeaSentence<'a> {
     // The data handed back.
     pub fn data(self) -> &'a [u8]
-        ensures { λ r. ⌜ r ≡ self .entry .data ⌝ }
+        ensures { λ r. ⌜ (r ≡ self .entry .data) × (now (self .exit .data) ≡ now (self .entry .data)) ⌝ }
     {
         self.data
     }
 
     // What the checksum should be.
     pub fn calc_checksum(self) -> u8
-        ensures { λ r. ⌜ r ≡ sumOf (self .entry .talker) (self .entry .kind) (now (self .entry .data)) ⌝ }
+        ensures { λ r. ⌜ (r ≡ sumOf (self .entry .talker) (self .entry .kind) (now (self .entry .data))) × (now (self .exit .data) ≡ now (self .entry .data)) ⌝ }
     {
         sum_of(self.talker, self.kind, self.data)
     }
 }
 
-// The same from a line and its sentence.
+// The same of a line and the sentence that framing found in it. Who has a plain slice calls this, and no walk is needed.
 pub fn line_checksum(line: &[u8], framed: Sentence) -> u8
     ensures { λ r. ⌜ (r ≡ sumOf (framed .talker) (framed .kind) (dataOf framed (now (line .entry)))) × (now (line .exit) ≡ now (line .entry)) ⌝ }
 {
     nmea_sentence(line, framed).calc_checksum()
+}
+
+// The checksum calculated, or why the line is refused.
+pub enum Calculated {
+    Is(u8),
+    Refused(Refusal),
+}
+
+// What any line's checksum should be.
+pub fn calculate(line: &[u8]) -> Calculated
+    ensures { λ r. ⌜ (summed r ≡ sumIn (frame (now (line .entry)))) × (now (line .exit) ≡ now (line .entry)) ⌝ }
+{
+    match frame::parse_nmea_sentence(line) {
+        Framed::Is(x) => Calculated::Is(line_checksum(line, x)),
+        Framed::Refused(r) => Calculated::Refused(r),
+    }
 }

@@ -135,7 +135,7 @@ module _ {M : Type 1} (𝓤 : URA M) (H : Heap 𝓤) (A : Atoms 𝓤) (W : Given
   goes-calc r u = qed W (‵ (B (κ, tt) .own r (u ∷ [])) ∷ (‵ (flft κ q) ⊛ ‵ ftrue) ∷ []) ∵ nothing ! $ move ! (1 ∷ 0 ∷ []) $ fjoin ! $ move ! (1 ∷ 0 ∷ []) $ join ! $ frame ! $ done !
 
   abbrev Told : NmeaSentence → ℕ → Type 0
-  Told r n = n ≡ sumOf (r .talker) (r .kind) (now (r .data))
+  Told r n = (n ≡ sumOf (r .talker) (r .kind) (now (r .data))) × (now (r .data) ≡ now (r .data))
 
   calc-said : (r : NmeaSentence) (n : ℕ) → ent 𝓤 (ensured 𝓤 H A calc.ended (calc.clauses 𝓤 H A mem run) (κ, tt) (r, tt) tt n) (fact 𝓤 (Told r n))
   calc-said r n = exE 𝓤 _ (λ ws. snd∗ 𝓤 (sem 𝓤 H A (lasts calc.ended (κ, tt) (r, tt) ws)) (fact 𝓤 (Told r n)))
@@ -143,7 +143,7 @@ module _ {M : Type 1} (𝓤 : URA M) (H : Heap 𝓤) (A : Atoms 𝓤) (W : Given
   -- the two together
   is-found : (r : NmeaSentence) (n : ℕ) → Made r → Told r n → n ≡ found
   is-found r n e e′ =
-      e′
+      e′ .0
       ∙ ap (λ (t : Talker). sumOf t (r .kind) (now (r .data))) (e .0)
       ∙ ap (λ (k : Kind). sumOf (f .talker) k (now (r .data))) (e .1)
       ∙ ap (sumOf (f .talker) (f .kind)) (e .3)

@@ -54,7 +54,7 @@ impl<'a> NmeaSentence<'a> {
     }
 }
 
-// The same of a line and the sentence that framing found in it. Who has a plain slice calls this, and no walk is needed.
+// The same of a line and its sentence: for callers that have a plain slice.
 pub fn line_checksum(line: &[u8], framed: Sentence) -> u8
     ensures { λ r. ⌜ (r ≡ sumOf (framed .talker) (framed .kind) (dataOf framed (now (line .entry)))) × (now (line .exit) ≡ now (line .entry)) ⌝ }
 {

@@ -8,7 +8,7 @@ use Rattle.utf8.specs.Utf8.{follow, step, after, ascii}
 use Rattle.text.specs.Bytes.{bytes}
 use Rattle.text.specs.Reader.{_>>=_, pure, orMiss, char, until}
 use Rattle.frame.specs.Refused.{badChecksum}
-use Rattle.frame.specs.Types.{types, alike, among}
+use Rattle.frame.specs.Types.{types, alike, listed}
 use Rattle.frame.specs.Checksum.{checksumFrom}
 use Rattle.frame.specs.Digits.{digit, hex}
 use Rattle.frame.specs.Frame.{Parts, accepted, taken, known, sentenceType, checksumField, sentence, sized, frame}
@@ -39,5 +39,5 @@ rows =
     ∷ []
 
 pub worked : map (λ (r : Row). sumIn (frame (r .0))) rows ≡ map (λ (r : Row). r .1) rows
-unfolding frame sized sentence sentenceType known checksumField taken among alike types checksumFrom hex digit _>>=_ pure orMiss char until ascii after step follow
+unfolding frame sized sentence sentenceType known checksumField taken listed alike types checksumFrom hex digit _>>=_ pure orMiss char until ascii after step follow
 worked = refl

@@ -13,7 +13,7 @@ use Rattle.text.specs.Placed.{refused as barred}
 use Rattle.text.specs.Answer.{part}
 use Rattle.text.specs.declared.Next.{Next}
 use Rattle.frame.specs.Refused.{Refused}
-use Rattle.frame.specs.Types.{types, among}
+use Rattle.frame.specs.Types.{types, listed}
 use Rattle.frame.specs.Checksum as Checksum
 use Rattle.frame.specs.Frame.{Parts, Outcome, accepted, checksumField, frame, dataIn}
 use Rattle.frame.specs.Frame.{refused as refusal}
@@ -110,7 +110,7 @@ Sentence-new talker kind checksum from to = same
 pub Sentence-data : (self : Sentence) (s : List ℕ) {r q : List ℕ} → r ≡ dataOf self s → q ≡ dataOf self s → r ≡ q
 Sentence-data self s = same
 
-pub known : (kind : Kind) {r q : Bool} → r ≡ among types (letters kind) → q ≡ among types (letters kind) → r ≡ q
+pub known : (kind : Kind) {r q : Bool} → r ≡ listed types (letters kind) → q ≡ listed types (letters kind) → r ≡ q
 known kind = same
 
 pub star : (s : List ℕ) (at : ℕ) {r q : Next} → Reads s at (until (byte "*")) (part s at r) → Reads s at (until (byte "*")) (part s at q) → r ≡ q

@@ -8,7 +8,7 @@ use Rattle.text.specs.Reader as Reader
 use Rattle.text.specs.Placed.{Placed, unread, refused, upto, Reads}
 use Rattle.text.specs.Number as Number
 use Rattle.text.specs.Units as Units
-use Rattle.text.specs.Answer.{whole, next, lettered, part, field}
+use Rattle.text.specs.Answer.{wholeAt, next, lettered, part, field}
 use Rattle.text.specs.declared.Whole.{Whole}
 use Rattle.text.specs.declared.Whole.the-variants.{No, Is}
 use Rattle.text.specs.declared.Next.{Next}
@@ -26,7 +26,7 @@ whole-of unread = No
 whole-of (refused f) = No
 whole-of (upto v p) = Is v p
 
-whole-is : (r : Whole) → whole-of (whole r) ≡ r
+whole-is : (r : Whole) → whole-of (wholeAt r) ≡ r
 unfolding whole-of
 whole-is No = refl
 whole-is (Is v p) = refl
@@ -78,8 +78,8 @@ one-among s at letters x y = undone lettered letter-of letter-is (reads x y)
 pub until : (s : List ℕ) (at b : ℕ) {r q : Next} → Reads s at (Reader.until b) (part s at r) → Reads s at (Reader.until b) (part s at q) → r ≡ q
 until s at b x y = undone (part s at) place-of (part-is s at) (reads x y)
 
-pub number : (s : List ℕ) (at max : ℕ) {r q : Whole} → Reads s at (Number.number max) (whole r) → Reads s at (Number.number max) (whole q) → r ≡ q
-number s at max x y = undone whole whole-of whole-is (reads x y)
+pub number : (s : List ℕ) (at max : ℕ) {r q : Whole} → Reads s at (Number.number max) (wholeAt r) → Reads s at (Number.number max) (wholeAt q) → r ≡ q
+number s at max x y = undone wholeAt whole-of whole-is (reads x y)
 
 pub opt-number : (s : List ℕ) (at max : ℕ) {r q : Field} → Reads s at (opt (Number.number max)) (field r) → Reads s at (opt (Number.number max)) (field q) → r ≡ q
 opt-number s at max x y = undone field field-of field-is (reads x y)
@@ -87,8 +87,8 @@ opt-number s at max x y = undone field field-of field-is (reads x y)
 pub unit : (b : ℕ) {r q : ℕ} → r ≡ Units.unit b → q ≡ Units.unit b → r ≡ q
 unit b = same
 
-pub two : (s : List ℕ) (at : ℕ) {r q : Whole} → Reads s at Number.two (whole r) → Reads s at Number.two (whole q) → r ≡ q
-two s at x y = undone whole whole-of whole-is (reads x y)
+pub two : (s : List ℕ) (at : ℕ) {r q : Whole} → Reads s at Number.twoBytes (wholeAt r) → Reads s at Number.twoBytes (wholeAt q) → r ≡ q
+two s at x y = undone wholeAt whole-of whole-is (reads x y)
 
-pub three : (s : List ℕ) (at : ℕ) {r q : Whole} → Reads s at Number.three (whole r) → Reads s at Number.three (whole q) → r ≡ q
-three s at x y = undone whole whole-of whole-is (reads x y)
+pub three : (s : List ℕ) (at : ℕ) {r q : Whole} → Reads s at Number.threeBytes (wholeAt r) → Reads s at Number.threeBytes (wholeAt q) → r ≡ q
+three s at x y = undone wholeAt whole-of whole-is (reads x y)

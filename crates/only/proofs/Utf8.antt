@@ -35,7 +35,7 @@ state-is AfterF4 = refl
 pub step : (state : Utf8) (b : ℕ) {r q : Utf8} → pending r ≡ Spec.step (pending state) b → pending q ≡ Spec.step (pending state) b → r ≡ q
 step state b x y = undone pending state-of state-is (same x y)
 
-pub whole : (state : Utf8) {r q : Bool} → r ≡ Spec.whole (pending state) → q ≡ Spec.whole (pending state) → r ≡ q
+pub whole : (state : Utf8) {r q : Bool} → r ≡ Spec.mayEnd (pending state) → q ≡ Spec.mayEnd (pending state) → r ≡ q
 whole state = same
 
 pub is-utf8 : (s : List ℕ) {r q : Bool} → r ≡ utf8 s → q ≡ utf8 s → r ≡ q

@@ -12,48 +12,19 @@ use lib.Dec.{ltb, eqb}
 use borrow.Author.Tests.{lt-ltb, ltb-true, eqb-true, ne-eqb}
 use Rattle.text.specs.Bytes.{byte}
 use Rattle.text.specs.Reader.{Parse, refuse, got, Number}
-use Rattle.text.specs.Number.{isDigit, leadingDigits, afterDigits, valueFrom, onlyDigits}
+use Rattle.text.specs.Number.{AllDigits, leadingDigits, afterDigits, valueFrom, onlyDigits}
+use Rattle.text.proofs.Runs.{together, begin-digits, digits-front, after-front, value-append}
 use Rattle.decimal.specs.Decimal.{Limits, Decimal, withoutSign, text, fromComma, fraction, inLimits, within, plain, orNumber, decimal}
-use Rattle.decimal.specs.Plain.{AllDigits, noMore, more, Digits, Plain, unpointed, pointed}
+use Rattle.decimal.specs.Plain.{Digits, Plain, unpointed, pointed}
 use Rattle.decimal.proofs.Decimals.{fit}
 use Rattle.decimal.proofs.Bounds.{Fit, fitting}
 
--- a text is the digits at its front and what follows them
-together : (l : List ℕ) → leadingDigits l ++ afterDigits l ≡ l
-together [] = refl
-together (b ∷ l) = by (isDigit b) (together l)
-  where
-    by : (t : Bool) → leadingDigits l ++ afterDigits l ≡ l → cond t (b ∷ leadingDigits l) [] ++ cond t (afterDigits l) (b ∷ l) ≡ b ∷ l
-    by true h = ap (λ (x : List ℕ). b ∷ x) h
-    by false h = refl
-
-all-digits : (l : List ℕ) → AllDigits (leadingDigits l)
-all-digits [] = noMore
-all-digits (b ∷ l) = by (isDigit b) refl (all-digits l)
-  where
-    by : (t : Bool) → isDigit b ≡ t → AllDigits (leadingDigits l) → AllDigits (cond t (b ∷ leadingDigits l) [])
-    by true e h = more e h
-    by false e h = noMore
-
--- digits, and then a text that does not go on with one
-front : {ds : List ℕ} (m : List ℕ) → AllDigits ds → leadingDigits m ≡ [] → leadingDigits (ds ++ m) ≡ ds
-front m noMore e = e
-front m (more {b} {l} f h) e = ap (λ (t : Bool). cond t (b ∷ leadingDigits (l ++ m)) []) f ∙ ap (λ (x : List ℕ). b ∷ x) (front m h e)
-
-back : {ds : List ℕ} (m : List ℕ) → AllDigits ds → afterDigits m ≡ m → afterDigits (ds ++ m) ≡ m
-back m noMore e = e
-back m (more {b} {l} f h) e = ap (λ (t : Bool). cond t (afterDigits (l ++ m)) (b ∷ (l ++ m))) f ∙ back m h e
-
 -- digits alone
-alone : {ds : List ℕ} → AllDigits ds → leadingDigits ds ≡ ds
-alone {ds} h = ap leadingDigits (sym (append-nil ds)) ∙ front [] h refl
+alone : (ds : List ℕ) → AllDigits ds → leadingDigits ds ≡ ds
+alone ds h = ap leadingDigits (sym (append-nil ds)) ∙ digits-front ds [] h refl
 
-nothing-after : {ds : List ℕ} → AllDigits ds → afterDigits ds ≡ []
-nothing-after {ds} h = ap afterDigits (sym (append-nil ds)) ∙ back [] h refl
-
-value-append : (n : ℕ) (ds es : List ℕ) → valueFrom n (ds ++ es) ≡ valueFrom (valueFrom n ds) es
-value-append n [] es = refl
-value-append n (b ∷ ds) es = value-append _ ds es
+nothing-after : (ds : List ℕ) → AllDigits ds → afterDigits ds ≡ []
+nothing-after ds h = ap afterDigits (sym (append-nil ds)) ∙ after-front ds [] h refl
 
 no-length : (l : List ℕ) → length l ≡ 0 → l ≡ []
 no-length [] e = refl
@@ -74,7 +45,7 @@ behind (b ∷ l) {es} e = by (eqb b (byte ".")) (ltb 0 (length (leadingDigits l)
         let h : leadingDigits l ≡ es = cc in
         let z = no-length (afterDigits l) (eqb-true (length (afterDigits l)) 0 r) in
         let k : leadingDigits l ≡ l = sym (append-nil (leadingDigits l)) ∙ ap (λ (x : List ℕ). leadingDigits l ++ x) (sym z) ∙ together l in
-        let d : Digits (leadingDigits l) = record { atLeastOne = ltb-true 0 (length (leadingDigits l)) q; all = all-digits l } in
+        let d : Digits (leadingDigits l) = record { atLeastOne = ltb-true 0 (length (leadingDigits l)) q; all = begin-digits l } in
         let w : Behind (byte "." ∷ leadingDigits l) (leadingDigits l) = point d in
         subst (λ (x : List ℕ). Behind (b ∷ l) x) h
         (subst (λ (x : List ℕ). Behind x (leadingDigits l)) (ap (λ (x : ℕ). x ∷ leadingDigits l) (sym (eqb-true b (byte ".") p)) ∙ ap (λ (x : List ℕ). b ∷ x) k) w)
@@ -91,10 +62,10 @@ plain-says lim t {d} e = by (ltb 0 (length (leadingDigits t))) (fraction (afterD
     joined g end z f =
         let k : leadingDigits t ≡ t = sym (append-nil (leadingDigits t)) ∙ ap (λ (x : List ℕ). leadingDigits t ++ x) (sym g) ∙ together t in
         subst (λ (x : List ℕ). Plain lim x (withoutSign (valueFrom 0 (leadingDigits t)) 0)) k
-        (unpointed (record { atLeastOne = z; all = all-digits t }) (f .before) (omega (arith, f .all)))
+        (unpointed (record { atLeastOne = z; all = begin-digits t }) (f .before) (omega (arith, f .all)))
     joined {es = es} g (point p) z f =
         let k : leadingDigits t ++ (byte "." ∷ es) ≡ t = ap (λ (x : List ℕ). leadingDigits t ++ x) (sym g) ∙ together t in
-        let w : Plain lim (leadingDigits t ++ (byte "." ∷ es)) (withoutSign (valueFrom 0 (leadingDigits t ++ es)) (length es)) = pointed (record { atLeastOne = z; all = all-digits t }) p (f .before) (f .after) (f .all) in
+        let w : Plain lim (leadingDigits t ++ (byte "." ∷ es)) (withoutSign (valueFrom 0 (leadingDigits t ++ es)) (length es)) = pointed {ds = leadingDigits t} {es = es} (record { atLeastOne = z; all = begin-digits t }) p (f .before) (f .after) (f .all) in
         subst (λ (x : List ℕ). Plain lim x (withoutSign (valueFrom (valueFrom 0 (leadingDigits t)) es) (length es))) k
         (subst (λ (n : ℕ). Plain lim (leadingDigits t ++ (byte "." ∷ es)) (withoutSign n (length es))) (value-append 0 (leadingDigits t) es) w)
 
@@ -124,11 +95,11 @@ module _ (lim : Limits) where
 
   pub says-plain : {t : List ℕ} {d : Decimal} → Plain lim t d → plain lim t ≡ some d
   says-plain (unpointed {ds} p h k) =
-      taken ds ds [] [] (alone (p .all)) (nothing-after (p .all)) refl (p .atLeastOne) (fit lim (length ds) 0 h (omega arith) (omega arith))
+      taken ds ds [] [] (alone ds (p .all)) (nothing-after ds (p .all)) refl (p .atLeastOne) (fit lim (length ds) 0 h (omega arith) (omega arith))
   says-plain (pointed {ds} {es} p q h k j) =
-      let digit-run : onlyDigits es ≡ true = ap (λ (x : List ℕ). ltb 0 (length x) && eqb (length (afterDigits es)) 0) (alone (q .all)) ∙ ap (λ (x : List ℕ). ltb 0 (length es) && eqb (length x) 0) (nothing-after (q .all)) ∙ ap (λ (u : Bool). u && true) (lt-ltb 0 (length es) (q .atLeastOne)) in
-      let part : fraction (byte "." ∷ es) ≡ some es = ap (λ (u : Bool). cond u (some (leadingDigits es)) none) digit-run ∙ ap (λ (x : List ℕ). some x) (alone (q .all)) in
-      taken (ds ++ (byte "." ∷ es)) ds (byte "." ∷ es) es (front (byte "." ∷ es) (p .all) refl) (back (byte "." ∷ es) (p .all) refl) part (p .atLeastOne) (fit lim (length ds) (length es) h k j)
+      let digit-run : onlyDigits es ≡ true = ap (λ (x : List ℕ). ltb 0 (length x) && eqb (length (afterDigits es)) 0) (alone es (q .all)) ∙ ap (λ (x : List ℕ). ltb 0 (length es) && eqb (length x) 0) (nothing-after es (q .all)) ∙ ap (λ (u : Bool). u && true) (lt-ltb 0 (length es) (q .atLeastOne)) in
+      let part : fraction (byte "." ∷ es) ≡ some es = ap (λ (u : Bool). cond u (some (leadingDigits es)) none) digit-run ∙ ap (λ (x : List ℕ). some x) (alone es (q .all)) in
+      taken (ds ++ (byte "." ∷ es)) ds (byte "." ∷ es) es (digits-front ds (byte "." ∷ es) (p .all) refl) (after-front ds (byte "." ∷ es) (p .all) refl) part (p .atLeastOne) (fit lim (length ds) (length es) h k j)
       ∙ ap (λ (n : ℕ). some (withoutSign n (length es))) (sym (value-append 0 ds es))
 
 -- what stands at a place is a text, and no plain decimal within the limits

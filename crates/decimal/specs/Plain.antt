@@ -1,16 +1,10 @@
 -- A plain decimal within limits, as 01 says it: which texts are one, and what they write.
 use Prim.Native.Nat.{ℕ, _+_, _≤_, _<_}
-use mathlib.Core.Path.{_≡_}
-use mathlib.Core.List.{List, [], _∷_, _++_}
-use mathlib.Core.Bool.{true}
+use mathlib.Core.List.{List, _∷_, _++_}
 use lib.ListN.{length}
 use Rattle.text.specs.Bytes.{byte}
-use Rattle.text.specs.Number.{isDigit, valueFrom}
+use Rattle.text.specs.Number.{AllDigits, valueFrom}
 use Rattle.decimal.specs.Decimal.{Limits, Decimal, withoutSign}
-
-pub data AllDigits : List ℕ → Type 0 where
-  noMore : AllDigits []
-  more : {b : ℕ} {l : List ℕ} → isDigit b ≡ true → AllDigits l → AllDigits (b ∷ l)
 
 -- one or more digits
 pub record Digits (ds : List ℕ) : Type 0 where

@@ -66,8 +66,11 @@ pub data Outcome : Type 0 where
   refused : Refused → Outcome
 
 -- "the XOR of talker, type, comma and data"
+abbrev pub sumOver : List ℕ → List ℕ → List ℕ → ℕ
+sumOver talker kind text = checksum (talker ++ (kind ++ (byte "," ∷ text)))
+
 abbrev pub calculated : Parts → ℕ
-calculated p = checksum (p .talker ++ (p .kind ++ (byte "," ∷ p .text)))
+calculated p = sumOver (p .talker) (p .kind) (p .text)
 
 -- "last, the XOR .. against the two digits (6)": `sum` is calculated
 abbrev pub compared : ℕ → Parts → Outcome

@@ -4,11 +4,11 @@ use native.Mathlib.Omega.{arith}
 use mathlib.Core.Path.{_≡_, refl, ap, sym}
 use mathlib.Core.List.{List, [], _∷_, map}
 use mathlib.Core.Option.{Option, none, some}
-use lib.ListN.{length, replicate}
+use lib.ListN.{replicate}
 use Rattle.text.specs.Answer.{held}
 use Rattle.text.specs.declared.Held.{Held}
 use Rattle.text.specs.declared.Held.the-variants.{Absent, Known}
-use Rattle.gsv.specs.Gsv.{Satellite, Gsv, keep, present}
+use Rattle.gsv.specs.Gsv.{Satellite, keep}
 use Rattle.gsv.specs.Answer.{satellite, slot}
 use Rattle.gsv.specs.declared.SatInfo.{SatInfo}
 use Rattle.gsv.specs.declared.Slot.{Slot}
@@ -79,18 +79,3 @@ pushed-few r e s n q h = let z : r .count ≡ pushed e s .count = ap (λ (f : Fo
     by : (s : Slot) → pushed e s .count ≤ suc n
     by Empty = omega arith
     by (Seen t) = omega arith
-
--- a line has at most four entries
-kept : (o : Option Satellite) (es : List Satellite) → length (keep o es) ≤ suc (length es)
-kept none es = omega arith
-kept (some s) es = omega arith
-
-pub at-most-four : (g : Gsv) → length (present g) ≤ 4
-at-most-four g =
-    omega (
-      arith,
-      kept (g .first) (keep (g .second) (keep (g .third) (keep (g .fourth) []))),
-      kept (g .second) (keep (g .third) (keep (g .fourth) [])),
-      kept (g .third) (keep (g .fourth) []),
-      kept (g .fourth) [],
-    )

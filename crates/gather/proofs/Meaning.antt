@@ -4,7 +4,7 @@ use native.Mathlib.Omega.{arith}
 use mathlib.Core.Path.{_≡_, refl, ap, sym, _∙_}
 use mathlib.Core.Logic.{_↔_}
 use mathlib.Core.List.{List, [], _∷_, _++_, map}
-use mathlib.Core.Bool.{Bool, true, false, _&&_, cond}
+use mathlib.Core.Bool.{Bool, true, false, _&&_, cond, and-eq-true-iff}
 use mathlib.Core.Option.{Option, none, some}
 use borrow.Author.Tests.{lt-ltb, le-ltb, le-leb, leb-true}
 use lib.Dec.{leb}
@@ -27,7 +27,7 @@ use Rattle.gather.specs.Cells.{known, cell, noSat, pad}
 use Rattle.gather.specs.Lent.{small, isNoSat, fair, cellGood, cellsGood, sizeOf, stands}
 use Rattle.gather.specs.Put.{opened, meant, rowOf}
 use Rattle.gather.specs.declared.row.Row.{Row}
-use Rattle.gather.proofs.Padding.{both, good-pad}
+use Rattle.gather.proofs.Padding.{good-pad}
 use Rattle.gather.proofs.Back.{forth, forths, backs}
 
 and : (a b : Bool) → a ≡ true → b ≡ true → a && b ≡ true
@@ -47,11 +47,11 @@ abbrev Fair : SatInfo → Type 0
 Fair s = fair s ≡ true
 
 cell-fair : (s : Satellite) → readable s ≡ true → Fair (cell s)
-cell-fair s e = simp known-small (both (leb (s .id) 4294967295) _ e .1)
+cell-fair s e = simp known-small (and-eq-true-iff (leb (s .id) 4294967295) _ .0 e .1)
 
 cells-fair : (es : List Satellite) → allReadable es ≡ true → All Fair (map cell es)
 cells-fair [] e = tt
-cells-fair (s ∷ es) e = let (a, b) = both (readable s) (allReadable es) e in (cell-fair s a, cells-fair es b)
+cells-fair (s ∷ es) e = let (a, b) = and-eq-true-iff (readable s) (allReadable es) .0 e in (cell-fair s a, cells-fair es b)
 
 -- a cell of a u32
 abbrev pub InRange : SatInfo → Type 0
@@ -87,17 +87,17 @@ good-fair : (l : List SatInfo) (i m k : ℕ) → k ≡ i + m → cellsGood i k l
 good-fair l i ℕ.zero k e g = tt
 good-fair [] i (suc m) k e g = tt
 good-fair (s ∷ ss) i (suc m) k e g =
-    let (a, b) = both (cellGood i k s) (cellsGood (suc i) k ss) g in
+    let (a, b) = and-eq-true-iff (cellGood i k s) (cellsGood (suc i) k ss) .0 g in
     (rw (lt-ltb i k (omega arith)) at a, good-fair ss (suc i) m k (omega arith) b)
 
 -- a row that is written for a run that lines can leave
 pub written-stands : (o : Open Satellite) → leavable o ≡ true → stands (rowOf (some o)) ≡ true
 written-stands o e =
-    let (a, e₁) = both (leb 2 (o .next)) _ e in
-    let (b, e₂) = both (leb (o .next) (o .n)) _ e₁ in
-    let (c, e₃) = both (leb (o .n) 9) _ e₂ in
-    let (d, e₄) = both (leb (o .view) 65535) _ e₃ in
-    let (g, h) = both (allReadable (o .sats)) _ e₄ in
+    let (a, e₁) = and-eq-true-iff (leb 2 (o .next)) _ .0 e in
+    let (b, e₂) = and-eq-true-iff (leb (o .next) (o .n)) _ .0 e₁ in
+    let (c, e₃) = and-eq-true-iff (leb (o .n) 9) _ .0 e₂ in
+    let (d, e₄) = and-eq-true-iff (leb (o .view) 65535) _ .0 e₃ in
+    let (g, h) = and-eq-true-iff (allReadable (o .sats)) _ .0 e₄ in
     let cs : List SatInfo = map cell (o .sats) in
     let long : length (o .sats) ≡ length cs = sym (length-map (o .sats) cell) in
     let seam : take (length (o .sats)) (pad cs) ≡ cs = ap (λ (k : ℕ). take k (pad cs)) long ∙ take-append-seam cs (replicate (36 - length cs) noSat) in
@@ -133,12 +133,12 @@ pub record Typed (r : Row) : Type 0 where
 -- a row that stands was written for a run that lines can leave
 pub stands-leavable : (r : Row) → Typed r → stands r ≡ true → (leavable (opened r) ≡ true) × (rowOf (some (opened r)) ≡ r)
 stands-leavable r t e =
-    let (a, e₁) = both (leb 2 (r .next)) _ e in
-    let (b, e₂) = both (leb (r .next) (r .n)) _ e₁ in
-    let (c, e₃) = both (leb (r .n) 9) _ e₂ in
-    let (d, e₄) = both (leb (r .view) 65535) _ e₃ in
-    let (f, e₅) = both (leb (r .count) 36) _ e₄ in
-    let (g, h) = both (cellsGood 0 (r .count) (r .sats)) _ e₅ in
+    let (a, e₁) = and-eq-true-iff (leb 2 (r .next)) _ .0 e in
+    let (b, e₂) = and-eq-true-iff (leb (r .next) (r .n)) _ .0 e₁ in
+    let (c, e₃) = and-eq-true-iff (leb (r .n) 9) _ .0 e₂ in
+    let (d, e₄) = and-eq-true-iff (leb (r .view) 65535) _ .0 e₃ in
+    let (f, e₅) = and-eq-true-iff (leb (r .count) 36) _ .0 e₄ in
+    let (g, h) = and-eq-true-iff (cellsGood 0 (r .count) (r .sats)) _ .0 e₅ in
     let k : r .count ≤ 36 = leb-true _ _ f in
     let cs : List SatInfo = take (r .count) (r .sats) in
     let long : length (map satellite cs) ≡ r .count =

@@ -3,7 +3,7 @@ use Prim.Native.Nat.{ℕ, suc, _+_, _-_, _≤_}
 use native.Mathlib.Omega.{arith}
 use mathlib.Core.Path.{_≡_, refl, ap, sym, _∙_}
 use mathlib.Core.List.{List, [], _∷_, _++_}
-use mathlib.Core.Bool.{Bool, true, false, _&&_}
+use mathlib.Core.Bool.{true, and-eq-true-iff}
 use borrow.Author.Tests.{eqb-true, le-ltb}
 use lib.Dec.{eqb}
 use lib.ListN.{length, take, drop, replicate, length-append}
@@ -14,19 +14,15 @@ use Rattle.gsv.specs.declared.SatInfo.{SatInfo}
 use Rattle.gather.specs.Cells.{noSat, pad}
 use Rattle.gather.specs.Lent.{absent, isNoSat, cellGood, cellsGood}
 
-pub both : (a b : Bool) → a && b ≡ true → (a ≡ true) × (b ≡ true)
-both true b e = (refl, e)
-both false b e = let z : _≡_ {A = ℕ} 0 1 = cc in absurd (omega arith)
-
 absent-is : (m : Held) → absent m ≡ true → m ≡ Absent
 absent-is Absent e = refl
 absent-is (Known x) e = let z : _≡_ {A = ℕ} 0 1 = cc in absurd (omega arith)
 
 no-sat-is : (s : SatInfo) → isNoSat s ≡ true → s ≡ noSat
 no-sat-is s e =
-    let (p, e₁) = both (eqb (s .id) 0) _ e in
-    let (a, e₂) = both (absent (s .elevation)) _ e₁ in
-    let (b, c) = both (absent (s .azimuth)) _ e₂ in
+    let (p, e₁) = and-eq-true-iff (eqb (s .id) 0) _ .0 e in
+    let (a, e₂) = and-eq-true-iff (absent (s .elevation)) _ .0 e₁ in
+    let (b, c) = and-eq-true-iff (absent (s .azimuth)) _ .0 e₂ in
     λ i.
     record {
       id = eqb-true (s .id) 0 p i;
@@ -39,7 +35,7 @@ no-sat-is s e =
 none-left : (l : List SatInfo) (i k : ℕ) → k ≤ i → cellsGood i k l ≡ true → l ≡ replicate (length l) noSat
 none-left [] i k h e = refl
 none-left (s ∷ ss) i k h e =
-    let (a, b) = both (cellGood i k s) (cellsGood (suc i) k ss) e in
+    let (a, b) = and-eq-true-iff (cellGood i k s) (cellsGood (suc i) k ss) .0 e in
     λ j. no-sat-is s (rw (le-ltb i k h) at a) j ∷ none-left ss (suc i) k (omega arith) b j
 
 cells-are : (l : List SatInfo) (i m k : ℕ) → k ≡ i + m → cellsGood i k l ≡ true → l ≡ take m l ++ replicate (length l - m) noSat
@@ -51,7 +47,7 @@ cells-are (s ∷ ss) i ℕ.zero k ek e =
 cells-are (s ∷ ss) i (suc m) k ek e =
     let z : suc (length ss) - suc m ≡ length ss - m = omega arith in
     ap (λ (l : List SatInfo). s ∷ l)
-    (cells-are ss (suc i) m k (omega arith) (both (cellGood i k s) (cellsGood (suc i) k ss) e .1)
+    (cells-are ss (suc i) m k (omega arith) (and-eq-true-iff (cellGood i k s) (cellsGood (suc i) k ss) .0 e .1)
     ∙ ap (λ (n : ℕ). take m ss ++ replicate n noSat) (sym z))
 
 pub good-pad : (l : List SatInfo) (k : ℕ) → length l ≡ 36 → k ≤ 36 → cellsGood 0 k l ≡ true → l ≡ pad (take k l)

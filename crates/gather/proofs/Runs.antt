@@ -3,7 +3,7 @@ use Prim.Native.Nat.{_+_, _-_, _≤_, _<_}
 use native.Mathlib.Omega.{arith}
 use mathlib.Core.Path.{_≡_, refl, ap, sym, _∙_}
 use mathlib.Core.List.{List, [], _++_, map, map-append}
-use mathlib.Core.Bool.{Bool, true, false, _&&_, false≢true, cond}
+use mathlib.Core.Bool.{Bool, true, false, _&&_, false≢true, cond, and-eq-true-iff}
 use mathlib.Core.Option.{Option, none, some, Option·none-ne-some}
 use borrow.Author.Tests.{eq-eqb, ne-eqb, le-leb, lt-leb, leb-true, eqb-true}
 use lib.Dec.{eqb, leb}
@@ -28,8 +28,9 @@ use Rattle.gather.specs.declared.line.Before.{Before}
 use Rattle.gather.specs.declared.line.Four.{Four}
 use Rattle.gather.specs.declared.line.Outcome.{Outcome}
 use Rattle.gather.specs.declared.line.Kept.{Kept}
-use Rattle.gather.proofs.Padding.{both, good-pad, added}
-use Rattle.gather.proofs.Back.{backs, at-most-four}
+use Rattle.gather.proofs.Padding.{good-pad, added}
+use Rattle.gsv.proofs.Present.{at-most-four}
+use Rattle.gather.proofs.Back.{backs}
 
 abbrev pub nothing : Out Satellite
 nothing = record { row = none; group = none }
@@ -93,15 +94,15 @@ module _ (r : Row) (l : GsvSentence) where
 
   good : length (r .sats) ≡ 36 → onRow r l ≡ true → Good
   good room e =
-      let (e₁, f₁) = both (eqb (l .body .count) (r .n)) _ e in
-      let (e₂, f₂) = both (eqb (l .body .index) (r .next)) _ f₁ in
-      let (e₃, f₃) = both (eqb (l .body .view) (r .view)) _ f₂ in
-      let (e₄, f₄) = both (leb 2 (r .next)) _ f₃ in
-      let (e₅, f₅) = both (leb (r .next) (r .n)) _ f₄ in
-      let (e₆, f₆) = both (leb (r .n) 9) _ f₅ in
-      let (e₇, f₇) = both (leb (r .view) 65535) _ f₆ in
-      let (e₈, f₈) = both (leb (r .count) 36) _ f₇ in
-      let (e₉, f₉) = both (cellsGood 0 (r .count) (r .sats)) _ f₈ in
+      let (e₁, f₁) = and-eq-true-iff (eqb (l .body .count) (r .n)) _ .0 e in
+      let (e₂, f₂) = and-eq-true-iff (eqb (l .body .index) (r .next)) _ .0 f₁ in
+      let (e₃, f₃) = and-eq-true-iff (eqb (l .body .view) (r .view)) _ .0 f₂ in
+      let (e₄, f₄) = and-eq-true-iff (leb 2 (r .next)) _ .0 f₃ in
+      let (e₅, f₅) = and-eq-true-iff (leb (r .next) (r .n)) _ .0 f₄ in
+      let (e₆, f₆) = and-eq-true-iff (leb (r .n) 9) _ .0 f₅ in
+      let (e₇, f₇) = and-eq-true-iff (leb (r .view) 65535) _ .0 f₆ in
+      let (e₈, f₈) = and-eq-true-iff (leb (r .count) 36) _ .0 f₇ in
+      let (e₉, f₉) = and-eq-true-iff (cellsGood 0 (r .count) (r .sats)) _ .0 f₈ in
       let h₅ : r .next ≤ r .n = leb-true _ _ e₅ in
       let h₆ : r .n ≤ 9 = leb-true _ _ e₆ in
       let h₈ : r .count ≤ 36 = leb-true _ _ e₈ in

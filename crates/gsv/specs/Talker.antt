@@ -38,9 +38,9 @@ talkers =
     ∷ []
 
 -- the system of the row that has the two letters
-unfoldable pub among : List Row → ℕ → ℕ → Option System
-among [] a b = none
-among (r ∷ rs) a b = cond (eqb a (r .first) && eqb b (r .second)) (some (r .system)) (among rs a b)
+unfoldable pub rowFor : List Row → ℕ → ℕ → Option System
+rowFor [] a b = none
+rowFor (r ∷ rs) a b = cond (eqb a (r .first) && eqb b (r .second)) (some (r .system)) (rowFor rs a b)
 
 abbrev pub systemOf : ℕ → ℕ → Option System
-systemOf a b = among talkers a b
+systemOf a b = rowFor talkers a b

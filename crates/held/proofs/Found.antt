@@ -13,15 +13,15 @@ use Rattle.frame.specs.Checksum.{checksumFrom}
 use Rattle.frame.specs.Digits.{digit, hex}
 use Rattle.frame.specs.Frame.{Parts, accepted, taken, known, sentenceType, checksumField, sentence, sized, frame}
 use Rattle.frame.proofs.OneByte.{was-accepted}
-use Rattle.held.specs.Calculated.{Sum, sumIn, sum, refused}
+use Rattle.held.specs.Calculated.{Sum, sumIn, comesTo, refused}
 use Rattle.held.specs.Answer.{summed}
 use Rattle.held.specs.declared.Calculated.{Calculated}
 use Rattle.held.specs.declared.Calculated.the-variants.{Is, Refused}
 
-pub found : (l : List ℕ) (p : Parts) → frame l ≡ accepted p → sumIn (frame l) ≡ sum (p .checksum)
-found l p e = ap sumIn e ∙ ap sum (was-accepted l p e .sum)
+pub found : (l : List ℕ) (p : Parts) → frame l ≡ accepted p → sumIn (frame l) ≡ comesTo (p .checksum)
+found l p e = ap sumIn e ∙ ap comesTo (was-accepted l p e .sum)
 
-only : (r : Calculated) (n : ℕ) → summed r ≡ sum n → r ≡ Is n
+only : (r : Calculated) (n : ℕ) → summed r ≡ comesTo n → r ≡ Is n
 only (Is m) n e = let h : m ≡ n = cc in ap Is h
 only (Refused why) n e = let z : _≡_ {A = ℕ} 0 1 = cc in absurd (omega arith)
 
@@ -34,7 +34,7 @@ Row = List ℕ × Sum
 
 abbrev rows : List Row
 rows =
-    (bytes "$GPGSA,A,1,,,,*32", sum 0x32)
+    (bytes "$GPGSA,A,1,,,,*32", comesTo 0x32)
     ∷ (bytes "$GPGSA,A,1,,,,*33", refused (badChecksum 50 51))
     ∷ []
 

@@ -15,14 +15,14 @@ use Rattle.frame.specs.declared.sentence.Sentence.{Sentence}
 use Rattle.frame.specs.declared.parse.Framed.{Framed}
 use Rattle.frame.specs.declared.parse.Framed.the-variants.{Is as Accepted, Refused as NotAccepted}
 use Rattle.frame.proofs.Within.{within}
-use Rattle.held.specs.Calculated.{sumOf, sumIn, sum, refused}
+use Rattle.held.specs.Calculated.{sumOf, sumIn, comesTo, refused}
 
 module _ (s : List ℕ) {r : Framed} (h : framed s r ≡ frame s) where
   pub told-refused : {y : Refusal} → r ≡ NotAccepted y → refused (why y) ≡ sumIn (frame s)
   told-refused e = ap (λ (x : Framed). sumIn (framed s x)) (sym e) ∙ ap sumIn h
 
-  pub told-is : (x : Sentence) {n : ℕ} → r ≡ Accepted x → n ≡ sumOf (x .talker) (x .kind) (dataOf x s) → sum n ≡ sumIn (frame s)
+  pub told-is : (x : Sentence) {n : ℕ} → r ≡ Accepted x → n ≡ sumOf (x .talker) (x .kind) (dataOf x s) → comesTo n ≡ sumIn (frame s)
   told-is x e g =
       let is : frame s ≡ accepted (parts s x) = sym h ∙ ap (framed s) e in
       let inside = le-leb (x .to) (length s) (within s (parts s x) is) in
-      ap sum (g ∙ ap (λ (t : Bool). sumOf (x .talker) (x .kind) (cond t (slice (x .from) (x .to) s) [])) inside) ∙ sym (ap sumIn is)
+      ap comesTo (g ∙ ap (λ (t : Bool). sumOf (x .talker) (x .kind) (cond t (slice (x .from) (x .to) s) [])) inside) ∙ sym (ap sumIn is)

@@ -1,16 +1,22 @@
 -- What a line does and what it adds to the counts: neither turns on the satellites beside its answer, case by case. Assumes nothing.
-use Prim.Native.Nat.{ℕ, _+_}
+use Prim.Native.Nat.{ℕ, _+_, _<_}
 use native.Mathlib.Omega.{arith}
 use mathlib.Core.Path.{_≡_, refl, ap, _∙_}
 use mathlib.Core.List.{List, [], _∷_}
 use mathlib.Core.Option.{Option, none, some}
 use lib.ListN.{take}
 use Rattle.lines.specs.Places.{lineAt, nextPlace}
+use Rattle.gsv.specs.Answer.{gnss}
+use Rattle.rows.specs.Key.{keyOf, rowCount}
+use Rattle.gather.proofs.Keys.{key-below}
+use Rattle.sentence.specs.declared.GsvRecord.{GsvRecord}
 use Rattle.sentence.specs.Sentence.{Answer, isRmc, isGsa, isGsv, isOther, isRefused, GsvSentence, answer}
 use Rattle.short.specs.Room.{Written}
 use Rattle.sentence.specs.declared.Record.the-variants.{Rmc, Gsa, Gsv, Other, Refused}
 use Rattle.log.specs.declared.line.Said as Code
 use Rattle.log.specs.declared.line.Said.the-variants.{Blank, Read}
+use Rattle.log.specs.declared.line.Found.{Found}
+use Rattle.log.specs.declared.line.Found.the-variants.{Is}
 use Rattle.log.specs.declared.line.Here.{Here}
 use Rattle.log.specs.declared.walk.Counts.{Counts}
 use Rattle.log.specs.declared.walk.Sort.{Sort}
@@ -84,3 +90,7 @@ written (b ∷ l) s e = go (answer (b ∷ l)) refl e
     go (isGsv t) q e = record { line = b ∷ l; accepted = q ∙ ap isGsv (some-same e) }
     go (isOther k) q e = absurd (none-some e)
     go (isRefused r) q e = absurd (none-some e)
+
+-- the key of a line that was found is a row of the table
+pub below : {f : Found} {r : GsvRecord} → f ≡ Is r → {k : ℕ} → k ≡ keyOf (gnss (r .system)) → k < rowCount
+below {r = r} q e = omega (arith, key-below (gnss (r .system)))

@@ -3,7 +3,7 @@ use Prim.Native.Nat.{ℕ, _+_, _≤_, _<_}
 use native.Mathlib.Omega.{arith}
 use mathlib.Core.Path.{_≡_, refl, ap, sym, _∙_}
 use mathlib.Core.List.{List, []}
-use mathlib.Core.Bool.{Bool, true, false, not, _&&_, and-false, cond}
+use mathlib.Core.Bool.{Bool, true, false, not, _&&_, and-false, cond, and-eq-true-iff}
 use mathlib.Core.Option.{Option, none, some}
 use borrow.Author.Tests.{eq-eqb, ne-eqb, le-leb, lt-leb, leb-true, not-true, not-false}
 use lib.Dec.{eqb, leb}
@@ -13,7 +13,6 @@ use Rattle.gsv.specs.Gsv.{Satellite}
 use Rattle.rows.specs.Line.{lineOf}
 use Rattle.rows.specs.Leave.{Stands}
 use Rattle.sentence.specs.Sentence.{GsvSentence}
-use Rattle.gather.proofs.Padding.{both}
 use Rattle.log.specs.declared.totals.Run.{Run}
 use Rattle.log.specs.Code.{noRun, runOf, turnOf, isRun, Follows, Turns}
 
@@ -22,15 +21,15 @@ never e = let z : _≡_ {A = ℕ} 0 1 = cc in omega arith
 
 -- a run that stands waits for no line numbered 0 or 1
 waits-two : (o : Open Satellite) → Stands (some o) → 2 ≤ o .next
-waits-two o s = leb-true 2 (o .next) (both (leb 2 (o .next)) _ s .0)
+waits-two o s = leb-true 2 (o .next) (and-eq-true-iff (leb 2 (o .next)) _ .0 s .0)
 
 -- and for none above the ninth
 pub waits : (x : Option (Open Satellite)) → Stands x → runOf x .next ≤ 9
 waits none s = omega arith
 waits (some o) s =
-    let (_, e) = both (leb 2 (o .next)) _ s in
-    let (a, e₁) = both (leb (o .next) (o .n)) _ e in
-    let (b, _) = both (leb (o .n) 9) _ e₁ in
+    let (_, e) = and-eq-true-iff (leb 2 (o .next)) _ .0 s in
+    let (a, e₁) = and-eq-true-iff (leb (o .next) (o .n)) _ .0 e in
+    let (b, _) = and-eq-true-iff (leb (o .n) 9) _ .0 e₁ in
     omega (arith, leb-true (o .next) (o .n) a, leb-true (o .n) 9 b)
 
 module _ (run : Run) (s : GsvSentence) where

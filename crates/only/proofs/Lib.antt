@@ -4,6 +4,7 @@ pub mod Text
 pub mod Decimal
 pub mod Fields
 pub mod Frame
+pub mod Held
 pub mod Gsv
 pub mod Gsa
 pub mod Rmc

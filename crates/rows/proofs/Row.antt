@@ -12,7 +12,7 @@ use borrow.Author.Tests.{le-leb, leb-true}
 use Rattle.text.specs.Bytes.{byte}
 use Rattle.groups.specs.Log.{Gsv}
 use Rattle.groups.specs.Step.{Open, step}
-use Rattle.gsv.specs.Talker.{System, beidou, galileo, gps, glonass, navic, qzss, among, systemOf}
+use Rattle.gsv.specs.Talker.{System, beidou, galileo, gps, glonass, navic, qzss, rowFor, systemOf}
 use Rattle.gsv.specs.Gsv.{Satellite}
 use Rattle.sentence.specs.Sentence.{GsvSentence, answer, isGsv}
 use Rattle.short.specs.Texts.{Upto, Readable, AllReadable, bodyOf}
@@ -144,7 +144,7 @@ with-g : (b : ℕ) (s : System) → systemOf (byte "G") b ≡ some s → b < 128
 with-g b s e h = record { first = byte "G"; second = b; system = s; names = e; first-low = omega arith; second-low = h; mine = refl }
 
 talker : (κ : ℕ) → κ < rowCount → Talker κ
-unfolding among
+unfolding rowFor
 talker zero h = with-g (byte "P") gps refl (omega arith)
 talker (suc zero) h = with-g (byte "L") glonass refl (omega arith)
 talker (suc (suc zero)) h = with-g (byte "A") galileo refl (omega arith)

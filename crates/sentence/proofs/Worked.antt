@@ -22,7 +22,7 @@ use Rattle.frame.specs.Types.{types, alike, listed}
 use Rattle.frame.specs.Checksum.{checksumFrom}
 use Rattle.frame.specs.Digits.{digit, hex}
 use Rattle.frame.specs.Frame.{taken, known, sentenceType, checksumField, sentence, sized, frame}
-use Rattle.gsv.specs.Talker.{gps, among as rowOf}
+use Rattle.gsv.specs.Talker.{gps, rowFor as rowOf}
 use Rattle.gsv.specs.Gsv.{Satellite, gsv, entry, counted, cell, closing}
 use Rattle.text.specs.Many.{many, skip, takeWhile1, eof, allConsuming, oneOf3}
 use Rattle.gsa.specs.Gsa.{gsa, emptyTail, lastSystem, fullTail, prnFields, item, dop, dops, afterComma as systemAfterComma, optSystem}

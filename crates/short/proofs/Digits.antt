@@ -2,16 +2,17 @@
 -- digits write a number below the j-th power of ten. Assumes nothing.
 use Prim.Native.Nat.{ℕ, zero, suc, _+_, _-_, _*_, _/_, _%_, _≤_, _<_}
 use native.Mathlib.Omega.{arith}
-use mathlib.Core.Path.{_≡_, refl, ap, _∙_}
+use mathlib.Core.Path.{_≡_, refl, ap, sym, _∙_}
 use mathlib.Core.Bool.{Bool, true, false, cond, _&&_}
 use mathlib.Core.List.{List, [], _∷_, _++_}
 use lib.ListN.{length, length-append}
 use lib.Dec.{leb, ltb}
-use borrow.Author.Tests.{le-leb, lt-ltb, le-ltb, ltb-true, ltb-false, leb-true}
+use borrow.Author.Tests.{lt-ltb, le-ltb, ltb-true, ltb-false, leb-true}
 use Rattle.text.specs.Reader.{miss, got}
-use Rattle.text.specs.Number.{isDigit, leadingDigits, afterDigits, valueFrom, numberFrom, number}
+use Rattle.text.specs.Number.{isDigit, AllDigits, leadingDigits, afterDigits, valueFrom, numberFrom, number}
 use Rattle.text.proofs.Digits.{digit-yes}
-use Rattle.short.specs.Digits.{digitsFor, digitsOf, AllDigits}
+use Rattle.text.proofs.Runs.{together, begin-digits, number-of, value-append}
+use Rattle.short.specs.Digits.{digitsFor, digitsOf}
 
 -- a digit is a byte from 48 to 57
 pub digit-range : (b : ℕ) → isDigit b ≡ true → (48 ≤ b) × (b ≤ 57)
@@ -24,35 +25,6 @@ digit-range b e = by (leb 48 b) refl e
 pub all-append : (a b : List ℕ) → AllDigits a → AllDigits b → AllDigits (a ++ b)
 all-append [] b p q = q
 all-append (x ∷ a) b p q = (p .0, all-append a b (p .1) q)
-
--- digits in front of a text that begins with none are the digits that it begins with
-pub digits-front : (ds rest : List ℕ) → AllDigits ds → leadingDigits rest ≡ [] → leadingDigits (ds ++ rest) ≡ ds
-digits-front [] rest p e = e
-digits-front (b ∷ ds) rest p e = rw (p .0) (ap (λ (l : List ℕ). b ∷ l) (digits-front ds rest (p .1) e))
-
-after-none : (rest : List ℕ) → leadingDigits rest ≡ [] → afterDigits rest ≡ rest
-after-none [] e = refl
-after-none (b ∷ l) e = by (isDigit b) e
-  where
-    by : (t : Bool) → cond t (b ∷ leadingDigits l) [] ≡ [] → cond t (afterDigits l) (b ∷ l) ≡ b ∷ l
-    by true e = let z : _≡_ {A = ℕ} 0 1 = cc in absurd (omega arith)
-    by false e = refl
-
-pub after-front : (ds rest : List ℕ) → AllDigits ds → leadingDigits rest ≡ [] → afterDigits (ds ++ rest) ≡ rest
-after-front [] rest p e = after-none rest e
-after-front (b ∷ ds) rest p e = rw (p .0) (after-front ds rest (p .1) e)
-
--- READING DIGITS: one or more digits, leading zeros too, before a text that begins with none
-pub number-of : (max : ℕ) (ds rest : List ℕ) → AllDigits ds → 0 < length ds → leadingDigits rest ≡ [] → valueFrom 0 ds ≤ max
-    → number max (ds ++ rest) ≡ got (valueFrom 0 ds) rest
-unfolding number numberFrom
-number-of max ds rest p h e m =
-    rw (digits-front ds rest p e, after-front ds rest p e, lt-ltb 0 (length ds) h, le-leb (valueFrom 0 ds) max m)
-
--- what digits write, one after the other
-pub value-append : (n : ℕ) (a b : List ℕ) → valueFrom n (a ++ b) ≡ valueFrom (valueFrom n a) b
-value-append n [] b = refl
-value-append n (x ∷ a) b = value-append (n * 10 + (x - 48)) a b
 
 -- each thing that is true of the digits of a number goes by its tenth
 by-tenths : (P : ℕ → List ℕ → Type 0) → ((n : ℕ) → n < 10 → P n ((48 + n) ∷ []))
@@ -127,23 +99,8 @@ shortest ds p h = few-digits (valueFrom 0 ds) (length ds) h
 pub shortest-of : (n : ℕ) (ds : List ℕ) → AllDigits ds → 1 ≤ length ds → valueFrom 0 ds ≡ n → length (digitsOf n) ≤ length ds
 shortest-of n ds p h e = rw (← e) (shortest ds p h)
 
--- the digits that a text begins with
-pub begin-digits : (l : List ℕ) → AllDigits (leadingDigits l)
-begin-digits [] = tt
-begin-digits (b ∷ l) = by (isDigit b) refl (begin-digits l)
-  where
-    by : (t : Bool) → isDigit b ≡ t → AllDigits (leadingDigits l) → AllDigits (cond t (b ∷ leadingDigits l) [])
-    by true e p = (e, p)
-    by false e p = tt
-
 pub split-length : (l : List ℕ) → length (leadingDigits l) + length (afterDigits l) ≡ length l
-split-length [] = refl
-split-length (b ∷ l) = by (isDigit b) (split-length l)
-  where
-    by : (t : Bool) → length (leadingDigits l) + length (afterDigits l) ≡ length l
-        → length (cond t (b ∷ leadingDigits l) []) + length (cond t (afterDigits l) (b ∷ l)) ≡ length (b ∷ l)
-    by true h = omega arith
-    by false h = omega arith
+split-length l = sym (length-append (leadingDigits l) (afterDigits l)) ∙ ap length (together l)
 
 -- A NUMBER THAT IS READ is in its range, and takes at least the bytes of its shortest text
 pub number-eats : (max : ℕ) (l : List ℕ) {n : ℕ} {m : List ℕ} → number max l ≡ got n m → (n ≤ max) × (length (digitsOf n) + length m ≤ length l)

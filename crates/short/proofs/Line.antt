@@ -1,11 +1,11 @@
 -- WHAT AN ACCEPTED GSV LINE HAS ROOM FOR. Its framing takes ten bytes and its data no fewer than their shortest text, so there is room
 -- for its entries; and where there is room the shortest text, with its checksum, is such a line. Assumes nothing.
-use Prim.Native.Nat.{ℕ, suc, _+_, _≤_, _<_}
+use Prim.Native.Nat.{ℕ, _+_, _≤_, _<_}
 use native.Mathlib.Omega.{arith}
 use mathlib.Core.Path.{_≡_, refl, ap, _∙_}
 use mathlib.Core.Bool.{true}
 use mathlib.Core.List.{List, [], _∷_, _++_}
-use mathlib.Core.Option.{Option, none, some}
+use mathlib.Core.Option.{Option, some}
 use lib.ListN.{length, length-append}
 use borrow.Author.Tests.{le-leb, lt-ltb, eq-eqb}
 use Rattle.utf8.specs.Utf8.{ascii}
@@ -20,7 +20,8 @@ use Rattle.frame.proofs.Until.{Clear}
 use Rattle.frame.proofs.OneByte.{was-accepted}
 use Rattle.frame.proofs.Judged.{frame-ascii}
 use Rattle.gsv.specs.Talker.{System, systemOf}
-use Rattle.gsv.specs.Gsv.{Satellite, Gsv, gsv, keep, present}
+use Rattle.gsv.specs.Gsv.{Satellite, Gsv, gsv, present}
+use Rattle.gsv.proofs.Present.{at-most-four}
 use Rattle.sentence.specs.Sentence.{GsvSentence, isGsv, orRefused, gsvBy, framedBy, dispatch, answer}
 use Rattle.short.specs.Texts.{dataText, bodyOf}
 use Rattle.short.specs.Room.{Room, Written}
@@ -38,16 +39,6 @@ ten-bytes l p e =
     let text = ap (λ (x : Parts). length (x .text)) (s .parts) in
     let long = ap length (s .line) in
     omega (arith, w .short, length-append (s .text) (byte "*" ∷ s .y ∷ s .z ∷ w .rest))
-
-at-most-four : (g : Gsv) → length (present g) ≤ 4
-at-most-four g = four (g .first) (g .second) (g .third) (g .fourth)
-  where
-    one : (o : Option Satellite) (es : List Satellite) → length (keep o es) ≤ suc (length es)
-    one none es = omega arith
-    one (some s) es = omega arith
-
-    four : (a b c d : Option Satellite) → length (keep a (keep b (keep c (keep d [])))) ≤ 4
-    four a b c d = omega (arith, one a (keep b (keep c (keep d []))), one b (keep c (keep d [])), one c (keep d []), one d [])
 
 -- every accepted GSV line leaves this room
 pub room : (l : List ℕ) (h : GsvSentence) → answer l ≡ isGsv h → Room (h .body .view) (present (h .body))

@@ -11,7 +11,8 @@ use Rattle.utf8.specs.Utf8.{ascii}
 use Rattle.text.specs.Bytes.{byte}
 use Rattle.frame.proofs.Until.{Clear, none as clear-none, more as clear-more}
 use Rattle.gsv.specs.Gsv.{Satellite}
-use Rattle.short.specs.Digits.{digitsOf, AllDigits}
+use Rattle.text.specs.Number.{AllDigits}
+use Rattle.short.specs.Digits.{digitsOf}
 use Rattle.short.specs.Texts.{optText, entryText, entriesText, dataText}
 use Rattle.short.proofs.Digits.{digit-range, are-digits}
 

@@ -1,4 +1,5 @@
 pub mod Binds
+pub mod Runs
 pub mod Places
 pub mod Steps
 pub mod Letters

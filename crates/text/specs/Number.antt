@@ -1,7 +1,8 @@
 -- Whole numbers at the front of a text.
 use Prim.Native.Nat.{ℕ, _+_, _-_, _*_}
+use mathlib.Core.Path.{_≡_}
 use mathlib.Core.List.{List, [], _∷_}
-use mathlib.Core.Bool.{Bool, cond, _&&_}
+use mathlib.Core.Bool.{Bool, true, cond, _&&_}
 use mathlib.Core.Option.{Option, none, some}
 use lib.ListN.{length, take, drop}
 use lib.Dec.{eqb, ltb, leb}
@@ -10,6 +11,11 @@ use Rattle.text.specs.Reader.{Parse, miss, got, Reader}
 
 abbrev pub isDigit : ℕ → Bool
 isDigit b = leb (byte "0") b && leb b (byte "9")
+
+-- a text of digits alone
+abbrev pub AllDigits : List ℕ → Type 0
+AllDigits [] = Unit {0}
+AllDigits (b ∷ l) = (isDigit b ≡ true) × AllDigits l
 
 -- the digits that a text begins with, and the text after them
 abbrev pub leadingDigits : List ℕ → List ℕ

@@ -1,17 +1,12 @@
 -- `totals` meets its contract: at the loop's head the runs are those of a walk that has come as far. Assumes nothing.
-use Prim.Native.Nat.{ℕ, _-_, _<_}
+use Prim.Native.Nat.{_-_}
 use native.Mathlib.Omega.{arith}
-use mathlib.Core.Path.{_≡_, refl}
+use mathlib.Core.Path.{refl}
 use denote.Ref.{now}
 use lib.ListN.{length}
-use Rattle.gsv.specs.Answer.{gnss}
-use Rattle.rows.specs.Key.{keyOf, rowCount}
-use Rattle.sentence.specs.declared.GsvRecord.{GsvRecord}
-use Rattle.gather.proofs.Keys.{key-below}
 use Rattle.gather.specs.Table.{freshGatherer}
 use Rattle.gather.proofs.Tables.{held}
-use Rattle.log.specs.declared.line.Found.{Found}
-use Rattle.log.specs.declared.line.Found.the-variants.{Is}
+use Rattle.log.proofs.Adds.{below}
 use Rattle.log.proofs.Goes.{fit-within}
 use Rattle.log.proofs.Answers.{walk-long, walk-ended}
 use Rattle.log.proofs.Counting.{Counting, from-zero, count-first, below-nine, count-further, count-further-grouped, count-few, count-other, count-turn}
@@ -24,10 +19,6 @@ Inv-loop log runs₀ c₀ runs c = Counting log c runs
 
 abbrev μ-loop : tie.MeasureT-loop
 μ-loop log runs₀ c₀ runs c = length log - c .next
-
--- a key is a row of the table
-below : {f : Found} {r : GsvRecord} → f ≡ Is r → {k : ℕ} → k ≡ keyOf (gnss (r .system)) → k < rowCount
-below {r = r} q e = omega (arith, key-below (gnss (r .system)))
 
 returns : tie.Need-returns Inv-loop μ-loop
 returns c = let a = c .before .before .args in (walk-long (now (a .log)) 0 (length (now (a .log))) freshGatherer (c .if1 .taken) .says, refl)

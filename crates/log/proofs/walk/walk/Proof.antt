@@ -1,26 +1,18 @@
 -- `walk` meets its contract: at the loop's head, the steps of the whole walk are those that are left, from where it stands.
 -- Assumes nothing.
-use Prim.Native.Nat.{ℕ, _-_, _<_}
+use Prim.Native.Nat.{_-_}
 use native.Mathlib.Omega.{arith}
 use mathlib.Core.Path.{_≡_, refl, sym, _∙_}
 use denote.Ref.{now}
 use lib.ListN.{length, length-map}
 use borrow.Author.Tests.{not-false}
-use Rattle.gsv.specs.Answer.{gnss}
-use Rattle.rows.specs.Key.{keyOf, rowCount}
-use Rattle.sentence.specs.declared.GsvRecord.{GsvRecord}
-use Rattle.gather.proofs.Keys.{key-below}
-use Rattle.log.specs.declared.line.Found.{Found}
-use Rattle.log.specs.declared.line.Found.the-variants.{Is}
+use Rattle.rows.specs.Key.{rowCount}
+use Rattle.log.proofs.Adds.{below}
 use Rattle.log.proofs.Goes.{Goes, goes-first, after-other, after-kept, fit-within, further, further-grouped, few-groups}
 use Rattle.log.proofs.Answers.{walk-long, walk-bad, walk-used, walk-ended}
 use borrow.Author.Needs.{needs}
 use Rattle.log.proofs.walk.walk.Statement.{statement}
 use Rattle.log.proofs.walk.walk.Tie as tie
-
--- a key is a row of the table
-below : {f : Found} {r : GsvRecord} → f ≡ Is r → {k : ℕ} → k ≡ keyOf (gnss (r .system)) → k < rowCount
-below {r = r} q e = omega (arith, key-below (gnss (r .system)))
 
 abbrev Inv-loop : tie.InvT-loop
 Inv-loop log place allowance after₀ c₀ after c = Goes log place allowance after₀ c after

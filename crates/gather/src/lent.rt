@@ -26,7 +26,7 @@ fn in_range(m: Held) -> bool
 {
     match m {
         Held::Absent => true,
-        Held::Known(x) => x <= 2147483647,
+        Held::Known(x) => x <= gsv::PLACE_MAX,
     }
 }
 
@@ -196,7 +196,7 @@ pub fn row_stands(row: Row) -> bool
         return false;
     }
     let view = row.view;
-    if 65535 < view {
+    if gsv::COUNT_MAX < view {
         return false;
     }
     let count = row.count;

@@ -12,6 +12,13 @@ use text::Held;
 use text::Next;
 use text::Whole;
 
+// The most that a line can say: of n, number and in-view count, of a satellite's number, and of the rest of an entry.
+pub const COUNT_MAX: u32 = 65535;
+
+pub const ID_MAX: u32 = 4294967295;
+
+pub const PLACE_MAX: u32 = 2147483647;
+
 // The system that satellites belong to.
 pub enum GnssType {
     Beidou,
@@ -141,16 +148,16 @@ pub enum EntryAt {
 fn parse_gsv_sat_info(s: &[u8], at: usize) -> EntryAt
     ensures { λ r. ⌜ Reads (now (s .entry)) at entry (entryAt r) × (now (s .exit) ≡ now (s .entry)) ⌝ }
 {
-    let Whole::Is(id, at) = counted(s, at, 4294967295) else {
+    let Whole::Is(id, at) = counted(s, at, ID_MAX) else {
         return EntryAt::No;
     };
-    let Cell::Is(elevation, at) = in_cell(s, at, 2147483647) else {
+    let Cell::Is(elevation, at) = in_cell(s, at, PLACE_MAX) else {
         return EntryAt::No;
     };
-    let Cell::Is(azimuth, at) = in_cell(s, at, 2147483647) else {
+    let Cell::Is(azimuth, at) = in_cell(s, at, PLACE_MAX) else {
         return EntryAt::No;
     };
-    let f = text::opt_number(s, at, 2147483647);
+    let f = text::opt_number(s, at, PLACE_MAX);
     let at = f.at;
     let Next::At(at) = closing(s, at) else {
         return EntryAt::No;
@@ -216,13 +223,13 @@ pub enum GsvRead {
 pub fn do_parse_gsv(s: &[u8]) -> GsvRead
     ensures { λ r. ⌜ (gsvRead r ≡ value (gsv (now (s .entry)))) × (now (s .exit) ≡ now (s .entry)) ⌝ }
 {
-    let Whole::Is(count, at) = counted(s, 0, 65535) else {
+    let Whole::Is(count, at) = counted(s, 0, COUNT_MAX) else {
         return GsvRead::Syntax;
     };
-    let Whole::Is(index, at) = counted(s, at, 65535) else {
+    let Whole::Is(index, at) = counted(s, at, COUNT_MAX) else {
         return GsvRead::Syntax;
     };
-    let Whole::Is(view, at) = counted(s, at, 65535) else {
+    let Whole::Is(view, at) = counted(s, at, COUNT_MAX) else {
         return GsvRead::Syntax;
     };
     let r1 = opt_entry(s, at);

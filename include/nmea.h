@@ -1,5 +1,6 @@
-/* Reading NMEA 0183 sentences. Nothing is demanded of the caller beyond that the pointers are good for their lengths, also for a
- * length of 0. docs/ABI.md has the words in full, docs/LISTS.md the refusals' numbers. */
+/* Reading NMEA 0183 sentences. The pointers must be good for their lengths, also for a length of 0. The words must be aligned as
+ * uint64_t and must not overlap the bytes of the line or log. Nothing else is demanded of the caller. docs/ABI.md has the words in
+ * full, docs/LISTS.md the refusals' numbers. */
 #ifndef NMEA_H
 #define NMEA_H
 

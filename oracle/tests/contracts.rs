@@ -167,6 +167,28 @@ fn every_public_function_has_a_contract_and_demands_nothing() {
 }
 
 #[test]
+fn every_contract_says_that_lent_bytes_are_unchanged() {
+    let mut wrong = vec![];
+    let mut lent = 0;
+    for found in public_functions() {
+        let said = found.function.ensures.clone().unwrap_or_default();
+        for parameter in found.function.parameters.iter().filter(|p| p.lent) {
+            lent += 1;
+            let name = &parameter.name;
+            let unchanged = format!("now ({name} .exit) ≡ now ({name} .entry)");
+            if !said.contains(&unchanged) {
+                wrong.push(format!(
+                    "{}: expected `{unchanged}` in its `ensures`",
+                    found.shown()
+                ));
+            }
+        }
+    }
+    assert!(lent > 0, "no public function is lent anything");
+    all_agree(wrong);
+}
+
+#[test]
 fn every_theorem_says_the_contract_twice() {
     let mut wrong = vec![];
     for found in public_functions() {
@@ -478,16 +500,17 @@ pub fn bare_one() -> u8 {
             ("bare_one", "bare-one".to_owned(), false, None),
         ]
     );
-    let parameter = |name: &str, written| Parameter {
+    let parameter = |name: &str, written, lent| Parameter {
         name: name.into(),
         written,
+        lent,
     };
     assert_eq!(
         one("pub fn f(mut a: u8, out: &mut [u64], s: &[u8]) -> u8 {").parameters,
         [
-            parameter("a", false),
-            parameter("out", true),
-            parameter("s", false)
+            parameter("a", false, false),
+            parameter("out", true, false),
+            parameter("s", false, true)
         ]
     );
 }

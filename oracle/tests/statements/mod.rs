@@ -19,6 +19,8 @@ pub struct Parameter {
     pub name: String,
     /// A `&mut`, whose contents after the call are an answer too.
     pub written: bool,
+    /// A `&`, whose contents are as they were.
+    pub lent: bool,
 }
 
 impl Function {
@@ -91,13 +93,16 @@ fn declared(text: &str) -> Option<Function> {
         .filter(|parameter| !parameter.is_empty())
         .map(|parameter| {
             let (name, kind) = parameter.split_once(':').unwrap_or((parameter, ""));
+            let kind = kind.trim();
+            let written = kind.starts_with("&mut");
             Parameter {
                 name: name
                     .trim()
                     .trim_start_matches('&')
                     .trim_start_matches("mut ")
                     .into(),
-                written: kind.trim().starts_with("&mut"),
+                written,
+                lent: kind.starts_with('&') && !written,
             }
         })
         .collect();
@@ -303,7 +308,7 @@ pub fn contract(function: &Function, renamed: &[Renamed]) -> Result<Contract, St
             answers.push((*name).to_owned());
         }
     }
-    for Parameter { name, written } in &function.parameters {
+    for Parameter { name, written, .. } in &function.parameters {
         let parts: Vec<&Renamed> = renamed
             .iter()
             .filter(|(part, _)| words(part).contains(name))

@@ -4,6 +4,7 @@ mod dates;
 mod decimals;
 mod numbers;
 mod places;
+mod sums;
 mod times;
 mod utf8s;
 
@@ -25,4 +26,5 @@ fn main() {
     times::run();
     dates::run();
     places::run();
+    sums::run();
 }

@@ -14,7 +14,7 @@ pub record Time : Type 0 where
   pub second : ℕ
   pub nanosecond : ℕ
 
--- of `size` digits, of which `k` stand after the point: those before it are the second, those after it the nanoseconds
+-- of the digits, as one number `size`, the last `k` stand after the point: those before it are the second, those after it the nanoseconds
 abbrev pub secondOf : ℕ → ℕ → ℕ
 secondOf size k = size / 10 ^ k
 

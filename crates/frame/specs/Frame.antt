@@ -1,4 +1,4 @@
--- 01, "Framing, in order of checks". The readers bear the names of parse.rs.
+-- 01, "Framing, in order of checks". Above a reader stands the name that it has in parse.rs.
 use Prim.Native.Nat.{ℕ, _+_}
 use mathlib.Core.List.{List, [], _∷_, _++_}
 use mathlib.Core.Bool.{cond}

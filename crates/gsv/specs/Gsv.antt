@@ -62,8 +62,7 @@ entry = do
   closing
   pure (record { id = id; elevation = elevation; azimuth = azimuth; signal = signal })
 
--- sentences of the group, which of them this is, satellites in view, and the four entries; an entry that does not match is
--- absent and eats nothing, and so are all after it
+-- sentences of the group, which of them this is, satellites in view, and the four entries
 pub record Gsv : Type 0 where
   pub count : ℕ
   pub index : ℕ
@@ -73,7 +72,7 @@ pub record Gsv : Type 0 where
   pub third : Option Satellite
   pub fourth : Option Satellite
 
--- do_parse_gsv
+-- do_parse_gsv; an entry that does not match is absent and eats nothing, and so are all after it, which find the same text
 unfoldable pub gsv : Reader Gsv
 gsv = do
   count ← counted countMax

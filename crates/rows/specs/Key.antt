@@ -1,4 +1,4 @@
--- What a run belongs to: the row of a line. This file alone says that it is the system, and how many rows there are.
+-- What a run belongs to: the row of a line. There is one for each system.
 use Prim.Native.Nat.{ℕ}
 use Rattle.gsv.specs.Talker.{System, beidou, galileo, gps, glonass, navic, qzss}
 

@@ -41,11 +41,11 @@ abbrev pub AllReadable : List Satellite → Type 0
 AllReadable [] = Unit {0}
 AllReadable (s ∷ ss) = Readable s × AllReadable ss
 
--- data that has the first four of these entries, and no others
 abbrev pub firstOf : List Satellite → Option Satellite
 firstOf [] = none
 firstOf (s ∷ ss) = some s
 
+-- data that has the first four of these entries, and no others
 abbrev pub bodyOf : ℕ → ℕ → ℕ → List Satellite → Gsv
 bodyOf n k v es =
     record {

@@ -132,8 +132,13 @@ fn declared(text: &str) -> Option<Function> {
 
 /// Where the bracket that a text begins with is closed.
 fn closing(text: &str) -> Option<usize> {
+    closed(text.char_indices())
+}
+
+/// Where the bracket that comes first is closed.
+fn closed(letters: impl Iterator<Item = (usize, char)>) -> Option<usize> {
     let mut depth = 0;
-    for (at, letter) in text.char_indices() {
+    for (at, letter) in letters {
         match letter {
             '(' | '{' | '[' => depth += 1,
             ')' | '}' | ']' => depth -= 1,
@@ -219,18 +224,12 @@ fn bare(text: &[String]) -> Words {
 
 /// `closing`, of words.
 fn closes(text: &[String]) -> Option<usize> {
-    let mut depth = 0;
-    for (at, word) in text.iter().enumerate() {
-        match word.as_str() {
-            "(" | "{" | "[" => depth += 1,
-            ")" | "}" | "]" => depth -= 1,
-            _ => {}
-        }
-        if depth == 0 {
-            return Some(at);
-        }
-    }
-    None
+    // a bracket is a word of its own
+    closed(
+        text.iter()
+            .map(|word| word.chars().next().unwrap_or(' '))
+            .enumerate(),
+    )
 }
 
 /// `split_outside`, of words.

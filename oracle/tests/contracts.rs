@@ -1,5 +1,5 @@
-//! Holds the code's contracts, the theorems of `crates/only`, the must-fail
-//! edits, docs/CONTRACTS.md and the counts of docs/EVIDENCE.md against each
+//! Holds the code's contracts, the theorems of `crates/only`, the edits that
+//! must be refused, docs/CONTRACTS.md and the counts of docs/EVIDENCE.md against each
 //! other. The theorems write each contract out by hand, twice.
 
 mod statements;
@@ -131,12 +131,18 @@ fn public_functions() -> Vec<Found> {
     found
 }
 
-/// The must-fail edits: crate and name.
+/// The edits that must be refused, crate and name: those that `tests/edits`
+/// tries, and the frauds, which `rt ci` tries from nothing.
 fn edits() -> BTreeSet<(String, String)> {
     let mut found = BTreeSet::new();
     for name in files("crates", "") {
-        for edit in files(&format!("crates/{name}/must-fail"), ".edit") {
-            found.insert((name.clone(), edit));
+        for folder in ["tried", "must-fail"] {
+            for edit in files(&format!("crates/{name}/{folder}"), ".edit") {
+                assert!(
+                    found.insert((name.clone(), edit.clone())),
+                    "crates/{name}: two edits `{edit}`"
+                );
+            }
         }
     }
     found
@@ -389,12 +395,12 @@ fn every_edit_is_named_and_every_name_is_an_edit() {
     let mut wrong = vec![];
     for (of, name) in edits.difference(&named) {
         wrong.push(format!(
-            "crates/{of}/must-fail/{name}.edit: {DOCUMENT} does not name it; expected `{name}` in a row of section {of}, or `{of}`: {name}"
+            "crates/{of}: {DOCUMENT} does not name the edit {name}.edit; expected `{name}` in a row of section {of}, or `{of}`: {name}"
         ));
     }
     for (of, name) in named.difference(&edits) {
         wrong.push(format!(
-            "{DOCUMENT}: expected the edit `{name}` of `{of}`, and there is no crates/{of}/must-fail/{name}.edit"
+            "{DOCUMENT}: expected the edit `{name}` of `{of}`, and there is no {name}.edit in crates/{of}/tried or must-fail"
         ));
     }
     all_agree(wrong);
@@ -415,7 +421,7 @@ fn the_counts_are_those_of_the_evidence() {
         })
         .count();
     let line = format!(
-        "public functions {}, with a uniqueness theorem {proved}, must-fail edits {}",
+        "public functions {}, with a uniqueness theorem {proved}, edits that must be refused {}",
         functions.len(),
         edits().len()
     );

@@ -1,6 +1,7 @@
-/* Reading NMEA 0183 sentences. The pointers must be good for their lengths, also for a length of 0. The words must be aligned as
- * uint64_t and must not overlap the bytes of the line or log. Nothing else is demanded of the caller. docs/ABI.md has the words in
- * full, docs/LISTS.md the refusals' numbers. */
+/* Reading NMEA 0183 sentences. Lines and logs are passed as a pointer and a length in bytes, words as a pointer and a count of words.
+ * The pointers must be good for their lengths, also for a length of 0. The words must be aligned as uint64_t and must not overlap the
+ * bytes of the line or log. Nothing else is demanded of the caller. docs/ABI.md has the words and how the library is made, docs/LISTS.md
+ * the refusals' numbers. */
 #ifndef NMEA_H
 #define NMEA_H
 
@@ -25,25 +26,7 @@ extern "C" {
 uint32_t nmea_refusal(const uint8_t *line, size_t length);
 
 /* The whole answer to a line. With a buffer of 40 words or more it writes the first 40, each of them, and answers 1; words after
- * them are left as they were. With a shorter buffer it writes nothing and answers 0.
- *
- * A word that is not named is 0, and so is each word of a part that is absent. A signed number takes two words: its sign, 1 if it
- * is below zero, and its size. Floats are given by their bits, letters by their bytes.
- *
- * RMC      1..5 time (1 if present, hour, minute, second, nanosecond), 6 status, 7 1 if there is a position,
- *          8..11 latitude (sign and size of billionths of a minute, letter, f64 in degrees), 12..15 longitude,
- *          16..20 speed (1 if present, sign and size of its digits, decimals, f32), 21..25 course,
- *          26..29 date (1 if present, year, month, day), 30..34 variation, 35 mode, 36 navigational status
- * GSA      1, 2 talker, 3 mode, 4 fix, 5 system number, 6 1 if there are DOPs,
- *          7..10 PDOP (sign and size of its digits, decimals, f32), 11..14 HDOP, 15..18 VDOP,
- *          19 count of satellites, 20..37 the satellites
- * GSV      1, 2 talker, 3 system (1 GPS, 2 GLONASS, 3 Galileo, 4 BeiDou, 5 NavIC, 6 QZSS), 4 sentences of the group,
- *          5 which of them this is, 6 satellites in view,
- *          7..14 first entry (1 if present, satellite, then elevation, azimuth and signal, each with a 1 before it if present),
- *          15..22, 23..30, 31..38 second, third and fourth entry
- * other    1..3 the type's letters
- * refused  1 its number, 2 how many values it carries, 3 and on the values, at most 6
- */
+ * them are left as they were. With a shorter buffer it writes nothing and answers 0. docs/ABI.md says what stands in each word. */
 uint32_t nmea_answer(const uint8_t *line, size_t length, uint64_t *words, size_t count);
 
 /* The words of a log's totals. */

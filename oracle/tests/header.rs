@@ -57,10 +57,14 @@ fn every_exported_function_is_declared_and_called() {
         "no exported function in crates/capi/src"
     );
     for name in exported {
-        for file in ["include/nmea.h", "docs/ABI.md", "oracle/tests/header.c"] {
+        for (file, expected) in [
+            ("include/nmea.h", format!("{name}(")),
+            ("oracle/tests/header.c", format!("{name}(")),
+            ("docs/ABI.md", format!("`{name}`")),
+        ] {
             assert!(
-                read(file).contains(&format!("{name}(")),
-                "{file}: expected the exported function {name}"
+                read(file).contains(&expected),
+                "{file}: expected the exported function, {expected}"
             );
         }
     }

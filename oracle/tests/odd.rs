@@ -1,10 +1,11 @@
 //! Runs docs/ODD-READINGS.md: each row's sentence through the crate and
-//! through our reader, which must answer alike, and as the row says.
+//! through our reader, which must answer alike, and as the row says; each log
+//! through our program and through the plain gatherer.
 
 mod describe;
 
 use describe::describe;
-use oracle::{answer_of, crate_answer, judge, lines::Batch, Domain, Ours};
+use oracle::{answer_of, crate_answer, judge, lines::Batch, totals_of, Domain, Log, Ours};
 
 const DOCUMENT: &str = include_str!("../../docs/ODD-READINGS.md");
 
@@ -66,5 +67,50 @@ fn we_answer_every_row_alike() {
         let answer = answer_of(&words).expect("words of an answer");
         let domain = judge(line, &answer, &crate_answer(line));
         assert_eq!(domain, Ok(Domain::Inside), "{}", line.escape_ascii());
+    }
+}
+
+/// The text of each block of a kind, in order.
+fn blocks(kind: &str) -> Vec<&'static str> {
+    DOCUMENT
+        .split(&format!("```{kind}\n"))
+        .skip(1)
+        .map(|rest| rest.split("```").next().expect("a block's end"))
+        .collect()
+}
+
+/// A log's totals and its groups, a line each.
+fn told(log: &[u8]) -> String {
+    let log = Log::of(log);
+    let totals = log.totals().last().copied().unwrap_or_default();
+    let mut told = format!("{totals}\n");
+    for (index, group) in log.groups() {
+        let line = index + 1;
+        let satellites: Vec<String> = group
+            .entries
+            .iter()
+            .map(|entry| entry.satellite.to_string())
+            .collect();
+        told += &format!(
+            "at line {line}: {:?}, {} lines, {} in view: satellites {}\n",
+            group.system,
+            group.sentences,
+            group.in_view,
+            satellites.join(" ")
+        );
+    }
+    told
+}
+
+#[test]
+fn every_log_has_the_totals_and_groups_that_stand_behind_it() {
+    let (logs, answers) = (blocks("log"), blocks("text"));
+    assert_eq!(logs.len(), answers.len());
+    assert!(!logs.is_empty(), "no log");
+    for (log, answer) in logs.into_iter().zip(answers) {
+        assert_eq!(told(log.as_bytes()), answer, "{log}");
+        let printed = totals_of(log.as_bytes()).expect("the program's totals");
+        let totals = answer.split_inclusive('\n').next().expect("totals");
+        assert_eq!(printed.out, totals, "{log}");
     }
 }

@@ -1,0 +1,189 @@
+//! Holds docs/PROMISES.md and docs/READING.md against the crates: what they
+//! name is defined in the file, or the crate, that stands beside it.
+
+use std::{
+    collections::BTreeSet,
+    fs,
+    path::{Path, PathBuf},
+};
+
+fn repository() -> PathBuf {
+    Path::new(env!("CARGO_MANIFEST_DIR")).join("..")
+}
+
+fn read(file: &str) -> String {
+    fs::read_to_string(repository().join(file)).unwrap_or_else(|error| panic!("{file}: {error}"))
+}
+
+/// The names that a file of definitions, proofs or code defines: of the first
+/// word behind such words as `pub`, if a type or a parameter follows it.
+fn defined(source: &str) -> BTreeSet<&str> {
+    const BEFORE: [&str; 11] = [
+        "pub",
+        "pub(crate)",
+        "abbrev",
+        "unfoldable",
+        "record",
+        "data",
+        "fn",
+        "struct",
+        "enum",
+        "const",
+        "extern \"C\"",
+    ];
+    source
+        .lines()
+        .filter_map(|line| {
+            let mut rest = line.trim_start();
+            while let Some(next) = BEFORE
+                .iter()
+                .find_map(|word| rest.strip_prefix(word)?.strip_prefix(' '))
+            {
+                rest = next;
+            }
+            let end = rest.find([' ', ':', '(', '{', '<'])?;
+            let follows = rest[end..].trim_start();
+            follows
+                .starts_with([':', '(', '{', '<'])
+                .then_some(&rest[..end])
+        })
+        .collect()
+}
+
+/// All files below a folder, or the file itself.
+fn files(path: &Path) -> Vec<PathBuf> {
+    match fs::read_dir(path) {
+        Err(_) => vec![path.to_owned()],
+        Ok(entries) => entries
+            .flat_map(|entry| files(&entry.expect("an entry").path()))
+            .collect(),
+    }
+}
+
+/// The texts between backticks.
+fn quoted(cell: &str) -> Vec<&str> {
+    cell.split('`').skip(1).step_by(2).collect()
+}
+
+/// The names between backticks: no path, no formula, no sentence.
+fn names(cell: &str) -> Vec<&str> {
+    let is_name = |text: &&str| {
+        text.chars().any(char::is_alphabetic)
+            && !text.contains([' ', '/', '.', '$', ',', '*', '+'])
+            && !text.starts_with('-')
+            && !WORDS.contains(text)
+    };
+    quoted(cell).into_iter().filter(is_name).collect()
+}
+
+/// Words between backticks that are no names of ours.
+const WORDS: [&str; 14] = [
+    "requires",
+    "ensures",
+    "do",
+    "specs",
+    "proofs",
+    "src",
+    "stdout",
+    "min",
+    "opt",
+    "alt",
+    "match",
+    "unwrap",
+    "unreachable!",
+    "parse_num",
+];
+
+/// The rows of a document's tables.
+fn rows(document: &str) -> Vec<(usize, Vec<&str>)> {
+    document
+        .lines()
+        .enumerate()
+        .filter(|(_, line)| line.starts_with('|') && !line.starts_with("|-"))
+        .map(|(at, line)| {
+            (
+                at + 1,
+                line.trim_matches('|').split(" | ").map(str::trim).collect(),
+            )
+        })
+        .collect()
+}
+
+#[test]
+fn what_promises_names_is_defined_where_it_says() {
+    let document = read("docs/PROMISES.md");
+    let (mut wrong, mut found) = (vec![], 0);
+    for (at, cells) in rows(&document) {
+        let [_, what, place] = cells[..] else {
+            panic!("docs/PROMISES.md:{at}: not three cells")
+        };
+        let paths: Vec<&str> = quoted(place)
+            .into_iter()
+            .filter(|text| text.starts_with("crates/"))
+            .collect();
+        if paths.is_empty() {
+            continue;
+        }
+        let sources: Vec<String> = paths
+            .iter()
+            .flat_map(|path| files(&repository().join(path)))
+            .map(|path| {
+                fs::read_to_string(&path).unwrap_or_else(|error| {
+                    panic!("docs/PROMISES.md:{at}: {}: {error}", path.display())
+                })
+            })
+            .collect();
+        for name in names(what) {
+            found += 1;
+            if !sources.iter().any(|source| defined(source).contains(name)) {
+                wrong.push(format!(
+                    "docs/PROMISES.md:{at}: `{name}` is not defined in {}",
+                    paths.join(", ")
+                ));
+            }
+        }
+    }
+    assert!(found > 50, "{found} names");
+    assert!(wrong.is_empty(), "\n{}\n", wrong.join("\n"));
+}
+
+#[test]
+fn what_reading_names_is_defined() {
+    let sources: Vec<String> = ["crates", "oracle/tests"]
+        .into_iter()
+        .flat_map(|folder| files(&repository().join(folder)))
+        .map(
+            |path| match path.extension().and_then(|ending| ending.to_str()) {
+                Some("antt" | "rt" | "rs") => fs::read_to_string(&path).expect("a source"),
+                // an edit is named by its file
+                Some("edit") => format!("{}:", path.file_stem().unwrap_or_default().display()),
+                _ => String::new(),
+            },
+        )
+        .collect();
+    let all: BTreeSet<&str> = sources.iter().flat_map(|source| defined(source)).collect();
+    let document = read("docs/READING.md");
+    let (mut wrong, mut found) = (vec![], 0);
+    for (at, cells) in rows(&document) {
+        for name in names(cells.get(1).copied().unwrap_or_default()) {
+            found += 1;
+            let name = name.rsplit("::").next().unwrap_or(name);
+            if !all.contains(name) {
+                wrong.push(format!("docs/READING.md:{at}: `{name}` is defined nowhere"));
+            }
+        }
+        // files of definitions, as `frame/Frame`
+        for file in cells.iter().flat_map(|cell| quoted(cell)) {
+            let Some((of, name)) = file.split_once('/') else {
+                continue;
+            };
+            let is_definitions = name.starts_with(char::is_uppercase) && !name.contains('.');
+            let path = format!("crates/{of}/specs/{name}.antt");
+            if is_definitions && !repository().join(&path).is_file() {
+                wrong.push(format!("docs/READING.md:{at}: there is no {path}"));
+            }
+        }
+    }
+    assert!(found > 300, "{found} names");
+    assert!(wrong.is_empty(), "\n{}\n", wrong.join("\n"));
+}

@@ -2,7 +2,7 @@
 -- exact number. Multiples of the unit that `round` rounds to lie no nearer, since it rounds to the nearest of these; any other value of
 -- the format lies below a multiple that is itself at most the quotient. Assumes nothing.
 use mathlib.Core.Path.{_≡_, refl, sym, ap, _∙_, subst}
-use Prim.Native.Nat.{ℕ, zero, suc, _+_, _-_, _*_, _/_, _%_, _^_, _≤_, _<_, compare, Ordering, Ordering·lt, Ordering·eq, Ordering·gt}
+use Prim.Native.Nat.{ℕ, suc, _+_, _-_, _*_, _/_, _%_, _^_, _≤_, _<_, compare, Ordering, Ordering·lt, Ordering·eq, Ordering·gt}
 use native.Mathlib.Nat.{le-trans, le-of-eq, le-of-lt, mul-comm, mul-assoc, mul-left-comm, mul-right-comm, mul-pos, add-mul, one-mul, suc-mul, mul-le-mul-left, mul-le-mul-right, mod-lt, div-add-mod', le-div-iff-mul-le, zero-mul, mul-one, pow-suc, mul-lt-mul-of-pos-right, lt-of-mul-lt-mul-right, lt-of-lt-of-le}
 use native.Mathlib.Omega.{arith}
 use mathlib.Core.Bool.{Bool, true, false, not}

@@ -1,6 +1,8 @@
 -- What follows from the code's answer to a line: its refusal's number, and its words. Only a GSA record has satellites, and its
 -- cells are they with zeros after them. Assumes nothing.
-use Prim.Native.Nat.{ℕ, zero, suc, _-_}
+use Prim.Native.Nat.{ℕ, zero, suc, _-_, _≤_}
+use native.Mathlib.Omega.{arith}
+use mathlib.Core.Logic.{_↔_}
 use mathlib.Core.Path.{_≡_, refl, ap, sym, _∙_, subst}
 use mathlib.Core.List.{List, [], _∷_, _++_}
 use mathlib.Core.Option.{Option, none, some}
@@ -9,7 +11,8 @@ use Rattle.frame.specs.Answer.{talkerBytes}
 use Rattle.gsa.specs.Gsa.{kept}
 use Rattle.gsa.specs.Answer.{row, system, dopsOf}
 use Rattle.frame.specs.Refused.{Refused}
-use Rattle.sentence.specs.Sentence.{Answer, isRmc, isGsa, isGsv, isOther, isRefused, verdictOf}
+use Rattle.sentence.specs.Sentence.{Answer, isRmc, isGsa, isGsv, isOther, isRefused, verdictOf, answer}
+use Rattle.sentence.proofs.Numbered.{Numbered, numbered as numbered-line}
 use Rattle.sentence.specs.Answer.{recordOf, Says, Beside, verdict}
 use Rattle.sentence.specs.declared.Verdict.{Verdict}
 use Rattle.sentence.specs.declared.Record.{Record}
@@ -31,8 +34,30 @@ refusal-number (isGsv g) = refl
 refusal-number (isOther k) = refl
 refusal-number (isRefused r) = refl
 
-pub refusal-of : (a : Answer) {v w : Verdict} → verdict v ≡ verdictOf a → v ≡ w → numbered (verdict w) ≡ refusalNumber a
+refusal-of : (a : Answer) {v w : Verdict} → verdict v ≡ verdictOf a → v ≡ w → numbered (verdict w) ≡ refusalNumber a
 refusal-of a {v} {w} e q = ap (λ (x : Verdict). numbered (verdict x)) (sym q) ∙ ap numbered e ∙ refusal-number a
+
+accepted : (a : Answer) → Numbered 9 a → refusalNumber a ≡ 0 → verdictOf a ≡ none
+accepted (isRmc r) h e = refl
+accepted (isGsa g) h e = refl
+accepted (isGsv g) h e = refl
+accepted (isOther k) h e = refl
+accepted (isRefused r) h e = absurd (omega (arith, h .0, e))
+
+at-most : (a : Answer) → Numbered 9 a → refusalNumber a ≤ 9
+at-most (isRmc r) h = omega arith
+at-most (isGsa g) h = omega arith
+at-most (isGsv g) h = omega arith
+at-most (isOther k) h = omega arith
+at-most (isRefused r) h = h .1
+
+-- the number of the verdict on a line: it says whether there is a refusal, and is one of a line's
+pub said : (l : List ℕ) {n : ℕ} {v w : Verdict} → verdict v ≡ verdictOf (answer l) → v ≡ w → n ≡ numbered (verdict w)
+    → (n ≡ refusalNumber (answer l)) × ((n ≡ 0) ↔ (verdictOf (answer l) ≡ none)) × (n ≤ 11) × (l ≡ l)
+said l {n} d q f =
+    let e : n ≡ refusalNumber (answer l) = f ∙ refusal-of (answer l) d q in
+    let h : refusalNumber (answer l) ≤ 9 = at-most (answer l) (numbered-line l) in
+    (e, (λ z. accepted (answer l) (numbered-line l) (sym e ∙ z), λ z. e ∙ sym (refusal-number (answer l)) ∙ ap numbered z), omega arith, refl)
 
 -- zeros after a list change nothing of its padded words
 padded-zeros : (n k : ℕ) → padded n (replicate k 0) ≡ padded n []

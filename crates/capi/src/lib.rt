@@ -1,7 +1,8 @@
 // What C and Rust call: a line's refusal number, and its whole answer in 40 words.
 pub mod totals;
 
-ghost use mathlib.Core.Option.{Option·getD};
+ghost use mathlib.Core.Logic.{_↔_};
+ghost use mathlib.Core.Option.{Option·getD, none};
 ghost use mathlib.Core.Path.{_≡_};
 ghost use mathlib.Core.List.{_++_, _∷_};
 ghost use Prim.Native.Nat.{_≤_};
@@ -14,7 +15,7 @@ ghost use Rattle.frame.specs.Answer.{letters, refused};
 ghost use Rattle.gsa.specs.Answer.{dopsOf, system};
 ghost use Rattle.gsv.specs.Answer.{gnss, slot};
 ghost use Rattle.rmc.specs.Answer.{timeHeld, dateHeld, positionHeld, shortHeld, letterHeld, rmcData};
-ghost use Rattle.sentence.specs.Sentence.{answer};
+ghost use Rattle.sentence.specs.Sentence.{answer, verdictOf};
 ghost use Rattle.sentence.specs.Answer.{gsvSentence};
 ghost use Rattle.capi.specs.Layout.{refusalNumber, zeros, sign, optionWords, timeWords, coordinateWords, positionWords, dopWords, shortWords, dateWords, dopsWords, systemNumber, entryWords, carriedWords, rmcWords, gsvWords, otherWords, refusedWords};
 ghost use Rattle.capi.specs.Answer.{ofOption, ofTime, ofCoordinate, ofPosition, ofDop, ofShort, ofDate, ofDops, ofEntry, ofCarried, gsaRow, recordWords, Answered};
@@ -745,10 +746,10 @@ fn put(out: &mut [u64], w: [u64; WORDS])
     }
 }
 
-// The number of a line's refusal, 0 if it is accepted.
+// The number of a line's refusal, at most 11; 0 exactly if it is accepted.
 #[no_mangle]
 pub extern "C" fn nmea_refusal(line: &[u8]) -> u32
-    ensures { λ r. ⌜ (r ≡ refusalNumber (answer (now (line .entry)))) × (now (line .exit) ≡ now (line .entry)) ⌝ }
+    ensures { λ r. ⌜ (r ≡ refusalNumber (answer (now (line .entry)))) × ((r ≡ 0) ↔ (verdictOf (answer (now (line .entry))) ≡ none)) × (r ≤ 11) × (now (line .exit) ≡ now (line .entry)) ⌝ }
 {
     match sentence::judge(line) {
         Verdict::Accepted => 0,

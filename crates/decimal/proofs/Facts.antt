@@ -23,12 +23,12 @@ use Rattle.decimal.proofs.Power.{minutes-lt}
 use Rattle.decimal.proofs.Bounds.{Bounded, bounded}
 
 -- what a place reads, where the decimal is taken over by `f`: the decimal itself, with its bounds
-record From {A : Type 0} (lim : Limits) (f : Decimal → A) (a : A) : Type 0 where
-  of : Decimal
-  same : f of ≡ a
-  known : Bounded lim of
+pub record From {A : Type 0} (lim : Limits) (f : Decimal → A) (a : A) : Type 0 where
+  pub of : Decimal
+  pub same : f of ≡ a
+  pub known : Bounded lim of
 
-from : {A : Type 0} (lim : Limits) (f : Decimal → A) (l : List ℕ) {a : A} {m : List ℕ}
+pub from : {A : Type 0} (lim : Limits) (f : Decimal → A) (l : List ℕ) {a : A} {m : List ℕ}
     → (decimal lim >>= (λ d. pure (Option·map f d))) l ≡ got (some a) m → From lim f a
 unfolding _>>=_ pure
 from {A} lim f l {a} {m} e = by (decimal lim l) refl e

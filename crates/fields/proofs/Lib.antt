@@ -1,4 +1,6 @@
 pub mod Clock
 pub mod Calendar
+pub mod Gregorian
+pub mod Never
 pub mod Sign
 pub mod Steps

@@ -1,12 +1,14 @@
 -- No second answer of `capi`: neither another number nor another buffer after the call. Assumes nothing.
 use Prim.Native.Nat.{ℕ, _≤_, _<_}
 use mathlib.Core.Path.{_≡_, refl}
+use mathlib.Core.Logic.{_↔_}
 use mathlib.Core.Bool.{Bool, true, false}
 use mathlib.Core.List.{List}
+use mathlib.Core.Option.{none}
 use lib.Dec.{ltb}
 use lib.ListN.{length}
 use borrow.Author.Tests.{ltb-true, ltb-false}
-use Rattle.sentence.specs.Sentence.{answer}
+use Rattle.sentence.specs.Sentence.{answer, verdictOf}
 use Rattle.gather.specs.Table.{freshGatherer}
 use Rattle.log.specs.Walk.{Walk, barred, went, walkOf}
 use Rattle.capi.specs.Layout.{refusalNumber}
@@ -29,8 +31,11 @@ tells : (w : Walk) (before : List ℕ) {r q : ℕ} {l m : List ℕ} → Tells w 
 tells (barred x) before = both
 tells (went c) before = both
 
-pub nmea-refusal : (line : List ℕ) {r q : ℕ} → r ≡ refusalNumber (answer line) → q ≡ refusalNumber (answer line) → r ≡ q
-nmea-refusal line = same
+pub nmea-refusal : (line : List ℕ) {r q : ℕ}
+    → (r ≡ refusalNumber (answer line)) × ((r ≡ 0) ↔ (verdictOf (answer line) ≡ none)) × (r ≤ 11)
+    → (q ≡ refusalNumber (answer line)) × ((q ≡ 0) ↔ (verdictOf (answer line) ≡ none)) × (q ≤ 11)
+    → r ≡ q
+nmea-refusal line x y = same (x .0) (y .0)
 
 pub nmea-answer : (line before : List ℕ) {l m : List ℕ} {r q : ℕ} → Answered line before l r → Answered line before m q → (r ≡ q) × (l ≡ m)
 nmea-answer line before x y =

@@ -1,7 +1,10 @@
--- Worked data of RMC, by computation: the scope's example, the lone variation letter, an unknown mode letter, and Number
--- before what follows. Assumes nothing.
+-- Worked data of RMC, by computation: a variation, with its float by the bits, the lone variation letter, an unknown mode letter,
+-- and Number before what follows. Assumes nothing.
 use mathlib.Core.Path.{_≡_, refl}
-use mathlib.Core.Option.{none}
+use mathlib.Core.Option.{none, some}
+use lib.IntN.{pos, negℤ}
+use lib.Count.{trailingZeros}
+use lib.Ieee.{binary32, round, neg, ofBits, ofFields, odd, units, size, span, climb}
 use Rattle.text.specs.Bytes.{byte, bytes}
 use Rattle.text.specs.Reader.{_>>=_, pure, opt, alt, orMiss, char, oneOf, among, letterOf, Number}
 use Rattle.text.specs.Number.{fixed}
@@ -16,6 +19,21 @@ use Rattle.rmc.specs.Rmc.{Motion, withComma, ifComma, optLetter, fixPart
 
 abbrev nothing : Motion
 nothing = record { speed = none; course = none; date = none }
+
+-- a variation to the west is negative; the bits of the float nearest to -3.1
+pub variation-west :
+    value (rmc (bytes ",V,,,,,,,,003.1,W"))
+    ≡ is
+    (record {
+      fix = record { time = none; status = byte "V"; position = none };
+      motion = nothing;
+      ending = record {
+        variation = some (record { whole = negℤ (pos 31); decimals = 1; value = ofBits binary32 0xC0466666 });
+        letters = record { mode = none; status = none };
+      };
+    })
+unfolding rmc fixPart motion letters ending withComma ifComma optLetter hms clock timed date side latitude longitude doLatLon commas latLon doVariation variation shortDecimal longDecimal decimal fixed _>>=_ pure opt alt orMiss char oneOf among letterOf round ofBits ofFields odd units size span climb trailingZeros neg
+variation-west = refl
 
 -- `,E,A`: the comma is eaten as an absent variation, and E is no comma, so that neither mode nor status is read
 pub lone-letter :

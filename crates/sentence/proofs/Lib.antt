@@ -4,3 +4,5 @@ pub mod Beside
 pub mod Types
 pub mod Worked
 pub mod OneByte
+pub mod Never
+pub mod Numbered

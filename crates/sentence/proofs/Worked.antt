@@ -6,16 +6,17 @@ use mathlib.Core.List.{List, [], _∷_}
 use mathlib.Core.Option.{none, some}
 use lib.ListN.{replicate}
 use lib.IntN.{pos, negℤ}
-use lib.Ieee.{binary64, round}
+use lib.Count.{trailingZeros}
+use lib.Ieee.{binary32, binary64, round, add, sum, div, neg, ofInt, ofBits, ofFields, odd, units, size, span, climb}
 use Rattle.utf8.specs.Utf8.{follow, step, after, ascii}
 use Rattle.text.specs.Bytes.{byte, bytes}
 use Rattle.text.specs.Reader.{_>>=_, pure, opt, alt, orMiss, char, oneOf, among, letterOf, until}
 use Rattle.text.specs.Number.{number, numberFrom, fixed}
-use Rattle.decimal.specs.Decimal.{decimal, withoutSign}
-use Rattle.decimal.specs.Places.{Short, shortOf, shortDecimal, longDecimal}
+use Rattle.decimal.specs.Decimal.{decimal}
+use Rattle.decimal.specs.Places.{Short, shortDecimal, longDecimal}
 use Rattle.fields.specs.Time.{hms, clock, timed}
 use Rattle.fields.specs.Date.{date}
-use Rattle.fields.specs.Position.{degreesOf, side, latitude, longitude, doLatLon, commas, latLon}
+use Rattle.fields.specs.Position.{side, latitude, longitude, doLatLon, commas, latLon}
 use Rattle.fields.specs.Variation.{doVariation, variation}
 use Rattle.frame.specs.Refused.{badUtf8, notAscii, tooLong, syntaxError, badChecksum}
 use Rattle.frame.specs.Types.{types, alike, listed}
@@ -34,8 +35,8 @@ abbrev sat : ℕ → ℕ → ℕ → ℕ → Satellite
 sat i e a s = record { id = i; elevation = some e; azimuth = some a; signal = some s }
 
 -- a short decimal of so many digits after the point
-abbrev short : ℕ → ℕ → Short
-short n k = shortOf (withoutSign n k)
+abbrev short : ℕ → ℕ → ℕ → Short
+short n k b = record { whole = pos n; decimals = k; value = ofBits binary32 b }
 
 abbrev Row : Type 0
 Row = List ℕ × Answer
@@ -88,7 +89,7 @@ rows = (
               mode = byte "A";
               fix = byte "3";
               satellites = 16 ∷ 18 ∷ 22 ∷ 24 ∷ [];
-              dops = some (record { pdop = short 36 1; hdop = short 21 1; vdop = short 22 1 });
+              dops = some (record { pdop = short 36 1 0x40666666; hdop = short 21 1 0x40066666; vdop = short 22 1 0x400CCCCD });
               system = some 1;
             };
           }),
@@ -107,13 +108,13 @@ rows = (
               status = byte "A";
               position = some
                   (record {
-                    lat = record { count = pos 3090500000000; letter = byte "N"; degrees = degreesOf 51 (round binary64 false 305 10) false };
-                    lon = record { count = negℤ (pos 6000000000); letter = byte "W"; degrees = degreesOf 0 (round binary64 false 60 10) true };
+                    lat = record { count = pos 3090500000000; letter = byte "N"; degrees = ofBits binary64 0x4049C11111111111 };
+                    lon = record { count = negℤ (pos 6000000000); letter = byte "W"; degrees = ofBits binary64 0xBFB999999999999A };
                   });
             };
             motion = record {
-              speed = some (short 45 1);
-              course = some (short 2700 1);
+              speed = some (short 45 1 0x40900000);
+              course = some (short 2700 1 0x43870000);
               date = some (record { year = 2024; month = 2; day = 29 });
             };
             ending = record { variation = none; letters = record { mode = some (byte "A"); status = none } };
@@ -128,5 +129,5 @@ rows = (
     ∷ []
 
 pub worked : Holds rows
-unfolding answer dispatch frame sized sentence sentenceType checksumField taken known hex digit checksumFrom types alike listed follow step after ascii until char oneOf among letterOf _>>=_ pure opt alt orMiss number numberFrom fixed decimal shortDecimal longDecimal hms clock timed date side latitude longitude doLatLon commas latLon doVariation variation rowOf gsv entry counted cell closing many skip takeWhile1 eof allConsuming oneOf3 gsa emptyTail lastSystem fullTail prnFields item dop dops systemAfterComma optSystem rmc fixPart motion letters ending withComma ifComma optLetter
+unfolding answer dispatch frame sized sentence sentenceType checksumField taken known hex digit checksumFrom types alike listed follow step after ascii until char oneOf among letterOf _>>=_ pure opt alt orMiss number numberFrom fixed decimal shortDecimal longDecimal hms clock timed date side latitude longitude doLatLon commas latLon doVariation variation rowOf gsv entry counted cell closing many skip takeWhile1 eof allConsuming oneOf3 gsa emptyTail lastSystem fullTail prnFields item dop dops systemAfterComma optSystem rmc fixPart motion letters ending withComma ifComma optLetter round ofBits ofFields odd units size span climb trailingZeros add sum div neg ofInt
 worked = (refl, (refl, (refl, (refl, (refl, (refl, (refl, (refl, (refl, (refl, (refl, (refl, tt))))))))))))

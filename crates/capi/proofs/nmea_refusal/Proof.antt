@@ -1,8 +1,8 @@
--- `nmea_refusal` meets its contract: the number is that of the answer to the line. Assumes nothing.
-use mathlib.Core.Path.{refl, _∙_}
+-- `nmea_refusal` meets its contract: the number is that of the answer to the line, and no refusal of a line has the number 0.
+-- Assumes nothing.
+use mathlib.Core.Path.{refl}
 use denote.Ref.{now}
-use Rattle.sentence.specs.Sentence.{answer}
-use Rattle.capi.proofs.Says.{refusal-of}
+use Rattle.capi.proofs.Says.{said}
 use borrow.Author.Needs.{needs}
 use Rattle.capi.proofs.nmea_refusal.Statement.{statement}
 use Rattle.capi.proofs.nmea_refusal.Tie as tie
@@ -20,11 +20,12 @@ number-requires : tie.Need-number-requires
 number-requires c κs = search needs
 
 returns : tie.Need-returns
-returns c = (refusal-of (answer (now (c .before .before .before .before .args .line))) (c .before .before .judge .ensures .0) (c .enum-told .given .1), refl)
+returns c = said (now (c .before .before .before .before .args .line)) (c .before .before .judge .ensures .0) (c .enum-told .given .1) refl
 
 returns-2 : tie.Need-returns-2
 returns-2 c =
-    (c .number .ensures ∙ refusal-of (answer (now (c .before .before .before .before .before .before .args .line))) (c .before .before .before .before .judge .ensures .0) (c .before .before .why .given .1), refl)
+    said (now (c .before .before .before .before .before .before .args .line)) (c .before .before .before .before .judge .ensures .0) (c .before .before .why .given .1)
+    (c .number .ensures)
 
 pub nmea-refusal-spec : {M : Type 1} → statement M
 nmea-refusal-spec =

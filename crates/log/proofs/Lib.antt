@@ -7,6 +7,7 @@ pub mod Goes
 pub mod Answers
 pub mod Sums
 pub mod Again
+pub mod WholeLog
 pub mod Handing
 pub mod Damage
 pub mod Demand

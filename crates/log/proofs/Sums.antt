@@ -1,7 +1,7 @@
 -- A walk's totals are counts of the log's lines: each step counts the line that it answers. Assumes nothing.
 use Prim.Native.Nat.{ℕ, zero, suc, _+_, _-_, _≤_, _<_}
 use native.Mathlib.Omega.{arith}
-use mathlib.Core.Path.{_≡_, refl, ap, sym, _∙_}
+use mathlib.Core.Path.{_≡_, refl, ap, sym, _∙_, subst}
 use mathlib.Core.Logic.{_⊎_, inl, inr, ⊎-elim}
 use mathlib.Core.List.{List, []}
 use mathlib.Core.Bool.{Bool, true, false, cond}
@@ -19,7 +19,7 @@ use Rattle.fed.proofs.Counts.{every-line}
 use Rattle.log.specs.declared.walk.Counts.{Counts}
 use Rattle.frame.specs.Refused.{logTooLong, badPlace}
 use Rattle.log.specs.Step.{longest, end, idle, stepOf}
-use Rattle.log.specs.Walk.{tallied, grouped, Going, begin, barred, went, gone, walkOf}
+use Rattle.log.specs.Walk.{tallied, grouped, Going, begin, barred, went, Walked, gone, walkOf}
 use Rattle.log.specs.Totals.{behind, said, totals}
 use Rattle.log.proofs.Places.{place-within, place-end}
 use Rattle.log.proofs.OneStep.{at-end, good-place}
@@ -205,24 +205,26 @@ module _ (log : List ℕ) (p n : ℕ) (g : Gatherer) where
   pub walk-totals : length log ≤ longest → isPlace log p ≡ true → walkOf log p n g ≡ gone (totals log p n g)
   walk-totals short e = walk-is short e ∙ ap gone (sums log short p n g e)
 
-  pub walk-lines : (c : Counts) → walkOf log p n g .answer ≡ went c → c .lines ≡ c .blank + c .accepted + c .refused
-  unfolding walkOf totals
-  walk-lines c = go (ltb longest (length log)) (isPlace log p) refl refl
+  -- where it answers counts, neither the log nor the place was refused
+  pub not-barred : (c : Counts) → walkOf log p n g .answer ≡ went c → (length log ≤ longest) × (isPlace log p ≡ true)
+  unfolding walkOf
+  not-barred c = go (ltb longest (length log)) (isPlace log p) refl refl
     where
-      good : length log ≤ longest → isPlace log p ≡ true → (w : Going) → w ≡ goOn log n (begin p g) → went (w .counts) ≡ went c
-          → c .lines ≡ c .blank + c .accepted + c .refused
-      good short e w ew q =
-          let z : w .counts ≡ c = cc in
-          let y : c ≡ totals log p n g .counts = sym z ∙ ap (λ (v : Going). v .counts) (ew ∙ sums log short p n g e) in
-          rw y (sym (every-line (said log p n)))
-
       go : (t u : Bool) → ltb longest (length log) ≡ t → isPlace log p ≡ u
           → cond t (record { answer = barred (logTooLong (length log)); gatherer = g }) (cond u (gone (goOn log n (begin p g))) (record { answer = barred (badPlace p); gatherer = g })) .answer
           ≡ went c
-          → c .lines ≡ c .blank + c .accepted + c .refused
+          → (length log ≤ longest) × (isPlace log p ≡ true)
       go true u et eu q = let z : _≡_ {A = ℕ} 0 1 = cc in absurd (omega arith)
-      go false true et eu q = good (ltb-false longest (length log) et) eu (goOn log n (begin p g)) refl q
+      go false true et eu q = (ltb-false longest (length log) et, eu)
       go false false et eu q = let z : _≡_ {A = ℕ} 0 1 = cc in absurd (omega arith)
+
+  pub walk-lines : (c : Counts) → walkOf log p n g .answer ≡ went c → c .lines ≡ c .blank + c .accepted + c .refused
+  unfolding totals
+  walk-lines c e =
+      let (short, place) = not-barred c e in
+      let q : went (totals log p n g .counts) ≡ went c = ap (λ (w : Walked). w .answer) (sym (walk-totals short place)) ∙ e in
+      let z : totals log p n g .counts ≡ c = cc in
+      subst (λ (d : Counts). d .lines ≡ d .blank + d .accepted + d .refused) z (sym (every-line (said log p n)))
 
   -- THE THEOREM: at the length a step answers End, and place and gatherer are unchanged
   pub step-at-end : length log ≤ longest → stepOf log (length log) g ≡ idle (end (length log)) g

@@ -14,4 +14,5 @@ pub mod Demand
 pub mod Quiet
 pub mod Runs
 pub mod Counting
+pub mod Instances
 pub mod Worked

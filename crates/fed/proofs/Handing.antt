@@ -28,7 +28,7 @@ use Rattle.fed.specs.Fed.{gathered, fedAt}
 use Rattle.fed.proofs.Accepted.{some-same, accepted-as}
 
 -- the gatherer after some lines holds the theory's table after them
-holds : (t : Table Satellite) (ls : List (List ℕ)) → AllStand t
+pub holds : (t : Table Satellite) (ls : List (List ℕ)) → AllStand t
     → (gathered (held t) (saidAll ls) ≡ held (after t (seenOf (saidAll ls)))) × AllStand (after t (seenOf (saidAll ls)))
 holds t [] s = (refl, s)
 holds t (l ∷ ls) s = go (gsvOf (saidOf l)) refl (λ u su. holds u ls su)

@@ -11,6 +11,7 @@ pub mod WholeLog
 pub mod Handing
 pub mod Damage
 pub mod Demand
+pub mod LentLog
 pub mod Quiet
 pub mod Runs
 pub mod Counting

@@ -76,7 +76,7 @@ hands t s (some x) h =
       λ q. subst (λ (a : Gathered). Gives a h) (sym e) (same-group (x .system) o g h .1 q),
     )
 
-pub map-take : {A B : Type 0} (f : A → B) (i : ℕ) (l : List A) → map f (take i l) ≡ take i (map f l)
+map-take : {A B : Type 0} (f : A → B) (i : ℕ) (l : List A) → map f (take i l) ≡ take i (map f l)
 map-take f zero l = refl
 map-take f (suc i) [] = refl
 map-take f (suc i) (x ∷ l) = ap (λ (r : List _). f x ∷ r) (map-take f i l)

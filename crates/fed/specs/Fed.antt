@@ -1,4 +1,4 @@
--- A gatherer that is fed lines, and counts over them.
+-- A gatherer that is fed lines, any number of them, and counts over them.
 use Prim.Native.Nat.{ℕ, _+_}
 use mathlib.Core.List.{List, [], _∷_}
 use mathlib.Core.Bool.{Bool, true, false}
@@ -25,7 +25,7 @@ abbrev pub gathered : Gatherer → List Said → Gatherer
 gathered g [] = g
 gathered g (s ∷ ss) = gathered (gathers g (gsvOf s) .gatherer) ss
 
--- what the line at i does, to a gatherer that was fresh before the first
+-- what the line at i does: "Demand 3 speaks of place 0 and a fresh gatherer", so to one that was fresh before the first line
 abbrev pub fedAt : List Said → ℕ → Gathered
 fedAt ss i = gathers (gathered freshGatherer (take i ss)) (gsvOf (getD ss i blank))
 

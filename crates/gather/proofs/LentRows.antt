@@ -35,7 +35,7 @@ left-row : (ss : List GsvSentence) (κ : ℕ) → All Written ss → κ < rowCou
 left-row ss κ w h = ap (λ (g : Gatherer). getD (g .rows) κ emptyRow) (runs-held fresh ss (λ κ. tt) w) ∙ each-at rowOf (after fresh (logOf ss)) κ emptyRow h
 
 -- a row of a run that lines can leave is not the empty one, and stands
-not-empty : (x : Option (Open Satellite)) → Stands x → (rowOf x ≡ emptyRow → ⊥) → stands (rowOf x) ≡ true
+pub not-empty : (x : Option (Open Satellite)) → Stands x → (rowOf x ≡ emptyRow → ⊥) → stands (rowOf x) ≡ true
 not-empty none s n = absurd (n refl)
 not-empty (some o) s n = written-stands o s
 

@@ -19,7 +19,7 @@ use Rattle.rows.specs.Key.{keyOf, rowCount}
 use Rattle.rows.specs.Line.{lineOf}
 use Rattle.rows.specs.Leave.{Stands}
 use Rattle.rows.proofs.Row.{stands-step}
-use Rattle.sentence.specs.Sentence.{GsvSentence}
+use Rattle.sentence.specs.Sentence.{GsvSentence, answer as read, isGsv}
 use Rattle.short.specs.Room.{Written}
 use Rattle.gather.specs.Cells.{cell, noSat, pad}
 use Rattle.gather.specs.Put.{meant, rowOf, isSome, groupOf, emptyRow, putOf}
@@ -112,11 +112,11 @@ held-next t l s =
     answer : Row → Outcome
     answer r = putOf (step (meant r) (lineOf l))
 
-pub stand-next : (t : Table Satellite) (l : GsvSentence) → AllStand t → Written l → AllStand (next t (gsv (lineOf l)))
-stand-next t l s w κ = go (eqb (keyOf (l .system)) κ)
+pub stand-next : (t : Table Satellite) (k : List ℕ) (l : GsvSentence) → AllStand t → read k ≡ isGsv l → AllStand (next t (gsv (lineOf l)))
+stand-next t k l s e κ = go (eqb (keyOf (l .system)) κ)
   where
     go : (b : Bool) → Stands (cond b (step (t (keyOf (l .system))) (lineOf l) .row) (t κ))
-    go true = stands-step (t (keyOf (l .system))) (w .line) l (w .accepted) (s (keyOf (l .system)))
+    go true = stands-step (t (keyOf (l .system))) k l e (s (keyOf (l .system)))
     go false = s κ
 
 -- all lines, from a gatherer that holds such a table
@@ -126,12 +126,12 @@ logOf (l ∷ ls) = gsv (lineOf l) ∷ logOf ls
 
 pub stand-after : (t : Table Satellite) (ls : List GsvSentence) → AllStand t → All Written ls → AllStand (after t (logOf ls))
 stand-after t [] s w κ = s κ
-stand-after t (l ∷ ls) s w κ = stand-after (next t (gsv (lineOf l))) ls (stand-next t l s (w .0)) (w .1) κ
+stand-after t (l ∷ ls) s w κ = stand-after (next t (gsv (lineOf l))) ls (stand-next t (w .0 .line) l s (w .0 .accepted)) (w .1) κ
 
 pub runs-held : (t : Table Satellite) (ls : List GsvSentence) → AllStand t → All Written ls → run (held t) ls ≡ held (after t (logOf ls))
 runs-held t [] s w = refl
 runs-held t (l ∷ ls) s w =
-    ap (λ (g : Gathered). run (g .gatherer) ls) (held-next t l s) ∙ runs-held (next t (gsv (lineOf l))) ls (stand-next t l s (w .0)) (w .1)
+    ap (λ (g : Gathered). run (g .gatherer) ls) (held-next t l s) ∙ runs-held (next t (gsv (lineOf l))) ls (stand-next t (w .0 .line) l s (w .0 .accepted)) (w .1)
 
 -- a group's cells give its entries back
 pub group-same : (p q : Group Satellite) → groupOf (some p) ≡ groupOf (some q) → p ≡ q

@@ -2,17 +2,17 @@
 use Prim.Native.Nat.{ℕ, _+_, _<_}
 use native.Mathlib.Omega.{arith}
 use mathlib.Core.Path.{_≡_, refl, ap, _∙_}
-use mathlib.Core.List.{List, [], _∷_}
-use mathlib.Core.Option.{Option, none, some}
+use mathlib.Core.List.{List, []}
+use mathlib.Core.Option.{Option}
 use lib.ListN.{take}
 use Rattle.lines.specs.Places.{lineAt, nextPlace}
 use Rattle.gsv.specs.Answer.{gnss}
 use Rattle.rows.specs.Key.{keyOf, rowCount}
 use Rattle.gather.proofs.Keys.{key-below}
 use Rattle.sentence.specs.declared.GsvRecord.{GsvRecord}
-use Rattle.sentence.specs.Sentence.{Answer, isRmc, isGsa, isGsv, isOther, isRefused, GsvSentence, answer}
-use Rattle.short.specs.Room.{Written}
+use Rattle.sentence.specs.Sentence.{isRmc, isGsa, isGsv, isOther, isRefused, GsvSentence}
 use Rattle.sentence.specs.declared.Record.the-variants.{Rmc, Gsa, Gsv, Other, Refused}
+use Rattle.fed.specs.Line.{Said, blank, read, saidOf, gsvOf}
 use Rattle.log.specs.declared.line.Said as Code
 use Rattle.log.specs.declared.line.Said.the-variants.{Blank, Read}
 use Rattle.log.specs.declared.line.Found.{Found}
@@ -20,7 +20,6 @@ use Rattle.log.specs.declared.line.Found.the-variants.{Is}
 use Rattle.log.specs.declared.line.Here.{Here}
 use Rattle.log.specs.declared.walk.Counts.{Counts}
 use Rattle.log.specs.declared.walk.Sort.{Sort}
-use Rattle.log.specs.Line.{Said, blank, read, saidOf, gsvOf}
 use Rattle.log.specs.Walk.{tallied}
 use Rattle.log.specs.Answer.{saidIn, SaysHere}
 use Rattle.log.specs.Code.{sortOf, talliedBy}
@@ -72,24 +71,6 @@ module _ (log : List ℕ) (p : ℕ) (h : Here) (sh : SaysHere log p h) where
       ∙ ap (λ (k : Sort). talliedBy c k (h .next)) (ek ∙ sort-beside xs (h .said))
       ∙ by-sort c (h .next) (saidIn xs (h .said))
       ∙ (λ i. tallied c (sh .says i) (sh .next i))
-
-pub some-same : {A : Type 0} {x y : A} → some x ≡ some y → x ≡ y
-some-same e = cc
-
-pub none-some : {A : Type 0} {x : A} → none ≡ some x → ⊥
-none-some e = let z : _≡_ {A = ℕ} 0 1 = cc in omega arith
-
--- the accepted GSV sentence that a line is was written: the line itself
-pub written : (l : List ℕ) (s : GsvSentence) → gsvOf (saidOf l) ≡ some s → Written s
-written [] s e = absurd (none-some e)
-written (b ∷ l) s e = go (answer (b ∷ l)) refl e
-  where
-    go : (a : Answer) → answer (b ∷ l) ≡ a → gsvOf (read a) ≡ some s → Written s
-    go (isRmc r) q e = absurd (none-some e)
-    go (isGsa g) q e = absurd (none-some e)
-    go (isGsv t) q e = record { line = b ∷ l; accepted = q ∙ ap isGsv (some-same e) }
-    go (isOther k) q e = absurd (none-some e)
-    go (isRefused r) q e = absurd (none-some e)
 
 -- the key of a line that was found is a row of the table
 pub below : {f : Found} {r : GsvRecord} → f ≡ Is r → {k : ℕ} → k ≡ keyOf (gnss (r .system)) → k < rowCount

@@ -11,8 +11,8 @@ use Rattle.gsa.specs.Answer.{row}
 use Rattle.sentence.specs.Sentence.{answer}
 use Rattle.sentence.specs.Answer.{Says}
 use Rattle.sentence.specs.declared.ParseResult.{ParseResult}
+use Rattle.fed.specs.Line.{Said, blank, read, saidOf}
 use Rattle.log.specs.declared.line.Said.the-variants.{Blank, Read}
-use Rattle.log.specs.Line.{Said, blank, read, saidOf}
 use Rattle.log.specs.Answer.{besideSaid, Cells, SaysHere}
 use Rattle.log.specs.Code.{CutAt}
 

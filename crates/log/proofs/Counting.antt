@@ -18,6 +18,8 @@ use Rattle.gather.specs.Table.{freshGatherer}
 use Rattle.gather.specs.Put.{isSome}
 use Rattle.gather.proofs.Keys.{key-below}
 use Rattle.gather.proofs.Tables.{eachRow, each-at, each-next, held, AllStand, held-next, stand-next}
+use Rattle.fed.specs.Line.{gsvOf}
+use Rattle.fed.proofs.Accepted.{accepted-as}
 use Rattle.log.specs.declared.line.Found.{Found}
 use Rattle.log.specs.declared.line.Found.the-variants.{No, Is}
 use Rattle.log.specs.declared.line.Here.{Here}
@@ -25,11 +27,10 @@ use Rattle.log.specs.declared.totals.Run.{Run}
 use Rattle.log.specs.declared.totals.Turn.{Turn}
 use Rattle.log.specs.declared.walk.Counts.{Counts}
 use Rattle.log.specs.declared.walk.Sort.{Sort}
-use Rattle.log.specs.Line.{gsvOf}
 use Rattle.log.specs.Walk.{grouped, begin}
 use Rattle.log.specs.Answer.{saidIn, foundIn, SaysHere}
 use Rattle.log.specs.Code.{sortOf, talliedBy, noRun, runOf, turnOf, Turns}
-use Rattle.log.proofs.Adds.{found-is, written}
+use Rattle.log.proofs.Adds.{found-is}
 use Rattle.log.proofs.Goes.{Goes, goes-first, after-other, after-gathered, further, further-grouped, few-groups}
 use Rattle.log.proofs.Runs.{waits}
 
@@ -104,7 +105,7 @@ module _ (log : List ℕ) (c : Counts) (runs : List Run) (now' : Counting log c 
             let w : o ≡ turnOf (step (u κ) (lineOf l)) = eo (u k) (now' .stand k) q ∙ ap (λ (j : ℕ). turnOf (step (u j) (lineOf l))) ek in
             record {
               table = next u (gsv (lineOf l));
-              stand = stand-next u l (now' .stand) (written (lineAt log (c .next)) l (sym (found-is log (c .next) h sh ef) ∙ ap foundIn e));
+              stand = stand-next u (lineAt log (c .next)) l (now' .stand) (accepted-as (lineAt log (c .next)) l (sym (found-is log (c .next) h sh ef) ∙ ap foundIn e));
               are = ap (λ (x : List Run). set x k (o .run)) (now' .are) ∙ (λ i. set (runsOf u) (ek i) (w i .run)) ∙ each-next runOf u l;
               goes = after-gathered log 0 (length log) freshGatherer c (held u) (now' .goes) more in' h sh s es t et f ef r e
                   (held (next u (gsv (lineOf l)))) (isSome (step (u κ) (lineOf l) .group)) _ (held-next u l (now' .stand)) refl c'

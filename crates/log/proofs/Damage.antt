@@ -13,8 +13,9 @@ use Rattle.groups.specs.Log.{Gsv, Line, gsv, other, Handed, own}
 use Rattle.groups.specs.Group.{HandedOut, EndIn}
 use Rattle.groups.proofs.Damage.{same-after-damage}
 use Rattle.gsv.specs.Gsv.{Satellite}
-use Rattle.log.specs.Line.{Said, blank, saidOf, gsvOf}
-use Rattle.log.specs.Told.{seen, says, seenOf, told}
+use Rattle.fed.specs.Line.{Said, blank, saidOf, gsvOf}
+use Rattle.fed.specs.Seen.{seen, seenOf}
+use Rattle.log.specs.Told.{says, told}
 
 abbrev seeing : Said → Line Satellite
 seeing s = seen (gsvOf s)

@@ -20,9 +20,10 @@ use Rattle.groups.specs.Log.{Gsv, gsv, other, Handed}
 use Rattle.gsv.specs.Gsv.{Satellite}
 use Rattle.sentence.specs.Sentence.{answer, isRefused}
 use Rattle.sentence.proofs.OneByte.{Refuses, one-byte-refused}
-use Rattle.log.specs.Line.{Said, blank, read, saidOf}
+use Rattle.fed.specs.Line.{Said, blank, read, saidOf}
+use Rattle.fed.specs.Seen.{Gives}
 use Rattle.log.specs.Step.{longest}
-use Rattle.log.specs.Told.{says, told, Gives, stepAfter, lineIn}
+use Rattle.log.specs.Told.{says, told, stepAfter, lineIn}
 use Rattle.log.proofs.Damage.{says-count, line-before, line-after, same-before, same-after}
 use Rattle.log.proofs.Handing.{says-line, hands-out}
 

@@ -14,7 +14,6 @@ use Rattle.gsv.specs.Talker.{System}
 use Rattle.gsv.specs.Answer.{gnss}
 use Rattle.rows.specs.Key.{keyOf, rowCount}
 use Rattle.rows.specs.Line.{lineOf}
-use Rattle.sentence.specs.Sentence.{isRmc, isGsa, isGsv, isOther, isRefused}
 use Rattle.sentence.specs.Answer.{gsvSentence}
 use Rattle.sentence.specs.declared.GsvRecord.{GsvRecord}
 use Rattle.gather.specs.declared.row.Row.{Row}
@@ -25,14 +24,16 @@ use Rattle.gather.specs.declared.table.Gathered.{Gathered}
 use Rattle.gather.specs.Put.{meant, putOf, keptOf}
 use Rattle.gather.specs.Table.{handedBy, gatheredOf}
 use Rattle.gather.proofs.Keys.{stored-is}
+use Rattle.fed.specs.Line.{saidOf, gsvOf, gathers}
+use Rattle.fed.specs.Fed.{isHanded}
+use Rattle.fed.proofs.Counts.{one-of-three}
 use Rattle.log.specs.declared.line.Found.{Found}
 use Rattle.log.specs.declared.line.Found.the-variants.{No, Is}
 use Rattle.log.specs.declared.line.Here.{Here}
 use Rattle.log.specs.declared.walk.Counts.{Counts}
 use Rattle.log.specs.declared.walk.Sort.{Sort}
-use Rattle.log.specs.Line.{Said, blank, read, saidOf, gsvOf, gathers}
 use Rattle.log.specs.Step.{Stepped}
-use Rattle.log.specs.Walk.{onceIf, isBlank, isAccepted, isRefusal, isHanded, tallied, grouped, Going, counted, onward, steps, begin}
+use Rattle.log.specs.Walk.{tallied, grouped, Going, counted, onward, steps, begin}
 use Rattle.log.specs.Answer.{saidIn, foundIn, SaysHere}
 use Rattle.log.specs.Code.{sortOf, talliedBy, Within}
 use Rattle.log.proofs.Places.{place-within}
@@ -79,15 +80,6 @@ pub record Fit (log : List ℕ) (c : Counts) : Type 0 where
   pub few : c .lines ≤ c .next
   pub sum : c .blank + c .accepted + c .refused ≡ c .lines
   pub handed : c .groups ≤ c .lines
-
--- a line is blank, accepted or refused
-pub one-of-three : (s : Said) → onceIf (isBlank s) + onceIf (isAccepted s) + onceIf (isRefusal s) ≡ 1
-one-of-three blank = refl
-one-of-three (read (isRmc r)) = refl
-one-of-three (read (isGsa g)) = refl
-one-of-three (read (isGsv s)) = refl
-one-of-three (read (isOther k)) = refl
-one-of-three (read (isRefused r)) = refl
 
 fit-grouped : (log : List ℕ) (c : Counts) (b : Bool) → Fit log c → c .groups < c .lines → Fit log (grouped c b)
 fit-grouped log c false f h = f

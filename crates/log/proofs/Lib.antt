@@ -7,10 +7,13 @@ pub mod Goes
 pub mod Answers
 pub mod Sums
 pub mod Again
+pub mod WholeLog
 pub mod Handing
 pub mod Damage
 pub mod Demand
+pub mod LentLog
 pub mod Quiet
 pub mod Runs
 pub mod Counting
+pub mod Instances
 pub mod Worked

@@ -17,13 +17,13 @@ use Rattle.gather.specs.Table.{gatheredOf}
 use Rattle.gsa.specs.Answer.{row}
 use Rattle.sentence.specs.Answer.{gsvSentence}
 use Rattle.sentence.specs.declared.GsvRecord.{GsvRecord}
+use Rattle.fed.specs.Line.{saidOf, gsvOf, gathers}
 use Rattle.log.specs.declared.line.Found.{Found}
 use Rattle.log.specs.declared.line.Found.the-variants.{No, Is}
 use Rattle.log.specs.declared.line.Here.{Here}
 use Rattle.log.specs.declared.step.Stepped as Code
 use Rattle.log.specs.declared.step.Stepped.the-variants.{Refused, End, Line}
 use Rattle.log.specs.declared.step.StepAnswer.{StepAnswer}
-use Rattle.log.specs.Line.{saidOf, gsvOf, gathers}
 use Rattle.log.specs.Step.{refused, end, line, Stepped, idle, stepAt, stepOf}
 use Rattle.log.specs.Answer.{saidIn, foundIn, stepIn, besideStep, Cells, SaysStep, SaysHere}
 use Rattle.log.specs.Code.{idleOf}

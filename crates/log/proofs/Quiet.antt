@@ -11,7 +11,7 @@ use Rattle.frame.specs.Refused.{Refused, logTooLong, badPlace}
 use Rattle.sentence.specs.Sentence.{isRefused}
 use Rattle.lines.specs.Places.{isPlace, lineAt, nextPlace}
 use Rattle.gather.specs.declared.table.Gatherer.{Gatherer}
-use Rattle.log.specs.Line.{Said, blank, read, saidOf, gsvOf, untouched, gathers}
+use Rattle.fed.specs.Line.{Said, blank, read, saidOf, gsvOf, untouched, gathers}
 use Rattle.log.specs.Step.{longest, Step, refused, end, line, Stepped, idle, stepAt, stepOf}
 
 -- a step's answer that is no accepted GSV line

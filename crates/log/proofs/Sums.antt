@@ -1,9 +1,9 @@
 -- A walk's totals are counts of the log's lines: each step counts the line that it answers. Assumes nothing.
 use Prim.Native.Nat.{ℕ, zero, suc, _+_, _-_, _≤_, _<_}
 use native.Mathlib.Omega.{arith}
-use mathlib.Core.Path.{_≡_, refl, ap, sym, _∙_}
+use mathlib.Core.Path.{_≡_, refl, ap, sym, _∙_, subst}
 use mathlib.Core.Logic.{_⊎_, inl, inr, ⊎-elim}
-use mathlib.Core.List.{List, [], _∷_, map}
+use mathlib.Core.List.{List, []}
 use mathlib.Core.Bool.{Bool, true, false, cond}
 use borrow.Author.Tests.{ltb-true, ltb-false, le-ltb}
 use lib.Dec.{ltb}
@@ -13,15 +13,17 @@ use Rattle.lines.specs.Lines.{lines}
 use Rattle.lines.specs.Places.{isPlace, rest, lineAt, nextPlace}
 use Rattle.lines.proofs.Next.{next-place, drop-next, lines-here, lines-end}
 use Rattle.gather.specs.declared.table.Gatherer.{Gatherer}
+use Rattle.fed.specs.Line.{Said, saidOf, saidAll, gsvOf, gathers, isBlank, isAccepted, isRefusal}
+use Rattle.fed.specs.Fed.{onceIf, isHanded, howMany, gathered, groupsOf}
+use Rattle.fed.proofs.Counts.{every-line}
 use Rattle.log.specs.declared.walk.Counts.{Counts}
 use Rattle.frame.specs.Refused.{logTooLong, badPlace}
-use Rattle.log.specs.Line.{Said, saidOf, gsvOf, gathers}
 use Rattle.log.specs.Step.{longest, end, idle, stepOf}
-use Rattle.log.specs.Walk.{onceIf, isBlank, isAccepted, isRefusal, isHanded, tallied, grouped, Going, begin, barred, went, gone, walkOf}
-use Rattle.log.specs.Totals.{howMany, gathered, groupsOf, behind, said, totals}
+use Rattle.log.specs.Walk.{tallied, grouped, Going, begin, barred, went, Walked, gone, walkOf}
+use Rattle.log.specs.Totals.{behind, said, totals}
 use Rattle.log.proofs.Places.{place-within, place-end}
 use Rattle.log.proofs.OneStep.{at-end, good-place}
-use Rattle.log.proofs.Goes.{going, going-next, goOn, go-none, go-end, go-more, one-of-three}
+use Rattle.log.proofs.Goes.{going, going-next, goOn, go-none, go-end, go-more}
 
 -- totals on top of what was counted before
 abbrev onTop : Going → List Said → ℕ → Going
@@ -140,7 +142,7 @@ module _ (log : List ℕ) (short : length log ≤ longest) where
       → goOn log n w ≡ onTop w (said log (w .counts .next) n) (place log (w .counts .next) n)
   at-the-end n w h k =
       let p = w .counts .next in
-      let none' : said log p n ≡ [] = ap (λ (ls : List (List ℕ)). map saidOf (take n ls)) (lines-end log p k) ∙ ap (map saidOf) (take-nil n) in
+      let none' : said log p n ≡ [] = ap (λ (ls : List (List ℕ)). saidAll (take n ls)) (lines-end log p k) ∙ ap saidAll (take-nil n) in
       let left : length (behind n (drop p log)) ≡ 0 = ap (λ (l : List ℕ). length (behind n l)) (drop-of-length-le log k) ∙ ap length (behind-nil n) in
       go-end log n w k
       ∙ onTop-none w (place log p n) (omega arith)
@@ -162,7 +164,7 @@ module _ (log : List ℕ) (short : length log ≤ longest) where
       ∙ ih
       ∙ ap (λ (k : ℕ). onTop (going log w) (said log k n) (place log k n)) (going-next log w)
       ∙ onTop-more w s (isHanded (gathers (w .gatherer) (gsvOf s) .handed)) (gathers (w .gatherer) (gsvOf s) .gatherer) q (place log q n) (said log q n) _ refl
-      ∙ ap (λ (ls : List (List ℕ)). onTop w (map saidOf (take (suc n) ls)) (place log q n)) (sym (lines-here log p h))
+      ∙ ap (λ (ls : List (List ℕ)). onTop w (saidAll (take (suc n) ls)) (place log q n)) (sym (lines-here log p h))
       ∙ ap (λ (l : List ℕ). onTop w (said log p (suc n)) (length log - length (behind n l))) (drop-next log p h')
 
   on-top : (n : ℕ) (w : Going) → isPlace log (w .counts .next) ≡ true
@@ -193,11 +195,6 @@ module _ (log : List ℕ) (short : length log ≤ longest) where
         gatherer = gathered g ss;
       })
 
--- THE THEOREM: every line of a list is blank, accepted or refused, and only one of them
-pub every-line : (ss : List Said) → howMany isBlank ss + howMany isAccepted ss + howMany isRefusal ss ≡ length ss
-every-line [] = refl
-every-line (s ∷ ss) = let e = one-of-three s in let ih = every-line ss in omega arith
-
 -- THE THEOREM for a walk: where it is not refused, it answers the totals of the smaller of its allowance and the lines left, and its lines are the
 -- sum of blank, accepted and refused
 module _ (log : List ℕ) (p n : ℕ) (g : Gatherer) where
@@ -208,24 +205,26 @@ module _ (log : List ℕ) (p n : ℕ) (g : Gatherer) where
   pub walk-totals : length log ≤ longest → isPlace log p ≡ true → walkOf log p n g ≡ gone (totals log p n g)
   walk-totals short e = walk-is short e ∙ ap gone (sums log short p n g e)
 
-  pub walk-lines : (c : Counts) → walkOf log p n g .answer ≡ went c → c .lines ≡ c .blank + c .accepted + c .refused
-  unfolding walkOf totals
-  walk-lines c = go (ltb longest (length log)) (isPlace log p) refl refl
+  -- where it answers counts, neither the log nor the place was refused
+  pub not-barred : (c : Counts) → walkOf log p n g .answer ≡ went c → (length log ≤ longest) × (isPlace log p ≡ true)
+  unfolding walkOf
+  not-barred c = go (ltb longest (length log)) (isPlace log p) refl refl
     where
-      good : length log ≤ longest → isPlace log p ≡ true → (w : Going) → w ≡ goOn log n (begin p g) → went (w .counts) ≡ went c
-          → c .lines ≡ c .blank + c .accepted + c .refused
-      good short e w ew q =
-          let z : w .counts ≡ c = cc in
-          let y : c ≡ totals log p n g .counts = sym z ∙ ap (λ (v : Going). v .counts) (ew ∙ sums log short p n g e) in
-          rw y (sym (every-line (said log p n)))
-
       go : (t u : Bool) → ltb longest (length log) ≡ t → isPlace log p ≡ u
           → cond t (record { answer = barred (logTooLong (length log)); gatherer = g }) (cond u (gone (goOn log n (begin p g))) (record { answer = barred (badPlace p); gatherer = g })) .answer
           ≡ went c
-          → c .lines ≡ c .blank + c .accepted + c .refused
+          → (length log ≤ longest) × (isPlace log p ≡ true)
       go true u et eu q = let z : _≡_ {A = ℕ} 0 1 = cc in absurd (omega arith)
-      go false true et eu q = good (ltb-false longest (length log) et) eu (goOn log n (begin p g)) refl q
+      go false true et eu q = (ltb-false longest (length log) et, eu)
       go false false et eu q = let z : _≡_ {A = ℕ} 0 1 = cc in absurd (omega arith)
+
+  pub walk-lines : (c : Counts) → walkOf log p n g .answer ≡ went c → c .lines ≡ c .blank + c .accepted + c .refused
+  unfolding totals
+  walk-lines c e =
+      let (short, place) = not-barred c e in
+      let q : went (totals log p n g .counts) ≡ went c = ap (λ (w : Walked). w .answer) (sym (walk-totals short place)) ∙ e in
+      let z : totals log p n g .counts ≡ c = cc in
+      subst (λ (d : Counts). d .lines ≡ d .blank + d .accepted + d .refused) z (sym (every-line (said log p n)))
 
   -- THE THEOREM: at the length a step answers End, and place and gatherer are unchanged
   pub step-at-end : length log ≤ longest → stepOf log (length log) g ≡ idle (end (length log)) g

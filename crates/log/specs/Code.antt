@@ -16,7 +16,7 @@ use Rattle.rows.specs.Leave.{Stands}
 use Rattle.gather.specs.Put.{noGroup, isSome}
 use Rattle.gather.specs.declared.table.Gatherer.{Gatherer}
 use Rattle.gather.specs.declared.table.Handed.the-variants.{Nothing}
-use Rattle.log.specs.Line.{Said, blank, read}
+use Rattle.fed.specs.Line.{Said, blank, read}
 use Rattle.log.specs.declared.step.Stepped.{Stepped}
 use Rattle.log.specs.declared.step.StepAnswer.{StepAnswer}
 use Rattle.log.specs.declared.totals.Run.{Run}

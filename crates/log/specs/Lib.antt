@@ -1,4 +1,3 @@
-pub mod Line
 pub mod Step
 pub mod Walk
 pub mod Answer

@@ -5,47 +5,14 @@ use mathlib.Core.Bool.{Bool, true, false, cond}
 use lib.Dec.{ltb}
 use lib.ListN.{length, drop}
 use Rattle.frame.specs.Refused.{Refused, logTooLong, badPlace}
-use Rattle.sentence.specs.Sentence.{isRmc, isGsa, isGsv, isOther, isRefused}
 use Rattle.lines.specs.Lines.{lines}
 use Rattle.lines.specs.Places.{isPlace}
 use Rattle.gather.specs.declared.table.Gatherer.{Gatherer}
 use Rattle.gather.specs.declared.table.Gathered.{Gathered}
-use Rattle.gather.specs.declared.table.Handed.{Handed}
-use Rattle.gather.specs.declared.table.Handed.the-variants.{Nothing, Of}
-use Rattle.log.specs.Line.{Said, blank, read}
+use Rattle.fed.specs.Line.{Said, isBlank, isAccepted, isRefusal}
+use Rattle.fed.specs.Fed.{onceIf, isHanded}
 use Rattle.log.specs.Step.{longest, Step, refused, end, line, stepOf}
 use Rattle.log.specs.declared.walk.Counts.{Counts}
-
--- a Bool as the number of times that it is so
-abbrev pub onceIf : Bool → ℕ
-onceIf true = 1
-onceIf false = 0
-
--- "lines are blank, accepted or refused, each counted from the log"
-abbrev pub isBlank : Said → Bool
-isBlank blank = true
-isBlank (read a) = false
-
-abbrev pub isRefusal : Said → Bool
-isRefusal blank = false
-isRefusal (read (isRmc r)) = false
-isRefusal (read (isGsa g)) = false
-isRefusal (read (isGsv s)) = false
-isRefusal (read (isOther k)) = false
-isRefusal (read (isRefused r)) = true
-
--- "Other is accepted"
-abbrev pub isAccepted : Said → Bool
-isAccepted blank = false
-isAccepted (read (isRmc r)) = true
-isAccepted (read (isGsa g)) = true
-isAccepted (read (isGsv s)) = true
-isAccepted (read (isOther k)) = true
-isAccepted (read (isRefused r)) = false
-
-abbrev pub isHanded : Handed → Bool
-isHanded Nothing = false
-isHanded (Of s) = true
 
 abbrev pub tallied : Counts → Said → ℕ → Counts
 tallied c said next =

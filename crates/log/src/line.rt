@@ -4,7 +4,7 @@ ghost use mathlib.Core.List.{[]};
 ghost use Prim.Native.Nat.{_+_, _≤_, _<_, min};
 ghost use lib.ListN.{length, drop};
 ghost use Rattle.lines.specs.Places.{isPlace, stretch};
-ghost use Rattle.log.specs.Line.{gsvOf};
+ghost use Rattle.fed.specs.Line.{gsvOf};
 ghost use Rattle.log.specs.Answer.{saidIn, foundIn, SaysHere};
 ghost use Rattle.log.specs.Code.{CutAt, Saw, Clear};
 use sentence::GsvRecord;

@@ -7,7 +7,7 @@ use lib.ListN.{length, take}
 use Rattle.lines.specs.Places.{isPlace}
 use Rattle.gather.specs.Table.{freshGatherer}
 use Rattle.gather.specs.declared.table.Gatherer.{Gatherer}
-use Rattle.log.specs.Line.{Said, blank, read}
+use Rattle.fed.specs.Line.{Said, blank, read}
 use Rattle.log.specs.Step.{Step, refused, end, line, stepOf}
 use Rattle.log.specs.Walk.{Walk, barred, went, walkOf}
 use Rattle.log.specs.Answer.{saidIn, stepIn, SaysStep, walkIn, SaysWalk}

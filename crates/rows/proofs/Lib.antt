@@ -1,3 +1,4 @@
+pub mod Keys
 pub mod Fit
 pub mod Row
 pub mod Worked

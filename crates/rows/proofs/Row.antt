@@ -18,7 +18,7 @@ use Rattle.sentence.specs.Sentence.{GsvSentence, answer, isGsv}
 use Rattle.short.specs.Texts.{Upto, Readable, AllReadable, bodyOf}
 use Rattle.short.specs.Room.{Room}
 use Rattle.short.proofs.Texts.{all-present}
-use Rattle.short.proofs.Line.{room, line-of}
+use Rattle.short.proofs.Line.{Letter, room, line-of}
 use Rattle.pack.specs.Cut.{pieceCount}
 use Rattle.pack.specs.Rows.{Packs}
 use Rattle.pack.proofs.Few.{four-each}
@@ -136,21 +136,21 @@ record Talker (κ : ℕ) : Type 0 where
   pub second : ℕ
   pub system : System
   pub names : systemOf first second ≡ some system
-  pub first-low : first < 128
-  pub second-low : second < 128
+  pub first-letter : Letter first
+  pub second-letter : Letter second
   pub mine : keyOf system ≡ κ
 
-with-g : (b : ℕ) (s : System) → systemOf (byte "G") b ≡ some s → b < 128 → Talker (keyOf s)
-with-g b s e h = record { first = byte "G"; second = b; system = s; names = e; first-low = omega arith; second-low = h; mine = refl }
+with-g : (b : ℕ) (s : System) → systemOf (byte "G") b ≡ some s → Letter b → Talker (keyOf s)
+with-g b s e h = record { first = byte "G"; second = b; system = s; names = e; first-letter = (omega arith, omega arith); second-letter = h; mine = refl }
 
 talker : (κ : ℕ) → κ < rowCount → Talker κ
 unfolding rowFor
-talker zero h = with-g (byte "P") gps refl (omega arith)
-talker (suc zero) h = with-g (byte "L") glonass refl (omega arith)
-talker (suc (suc zero)) h = with-g (byte "A") galileo refl (omega arith)
-talker (suc (suc (suc zero))) h = with-g (byte "B") beidou refl (omega arith)
-talker (suc (suc (suc (suc zero)))) h = with-g (byte "I") navic refl (omega arith)
-talker (suc (suc (suc (suc (suc zero))))) h = with-g (byte "Q") qzss refl (omega arith)
+talker zero h = with-g (byte "P") gps refl (omega arith, omega arith)
+talker (suc zero) h = with-g (byte "L") glonass refl (omega arith, omega arith)
+talker (suc (suc zero)) h = with-g (byte "A") galileo refl (omega arith, omega arith)
+talker (suc (suc (suc zero))) h = with-g (byte "B") beidou refl (omega arith, omega arith)
+talker (suc (suc (suc (suc zero)))) h = with-g (byte "I") navic refl (omega arith, omega arith)
+talker (suc (suc (suc (suc (suc zero))))) h = with-g (byte "Q") qzss refl (omega arith, omega arith)
 talker (suc (suc (suc (suc (suc (suc κ)))))) h = absurd (omega arith)
 
 -- and a line wherever there is room
@@ -159,7 +159,7 @@ has-line : (κ : ℕ) → Talker κ → (n k v : ℕ) (es : List Satellite) → 
 has-line κ t n k v es hn hk r =
     record {
       sentence = record { talker = t .first ∷ t .second ∷ []; system = t .system; body = bodyOf n k v es };
-      written = line-of (t .first) (t .second) (t .system) n k v es (t .names) (t .first-low) (t .second-low) hn hk r;
+      written = line-of (t .first) (t .second) (t .system) n k v es (t .names) (t .first-letter) (t .second-letter) hn hk r;
       says = λ i. record { key = t .mine i; n = n; number = k; view = v; sats = all-present n k v es (r .four) i };
       mine = refl;
     }
@@ -170,26 +170,24 @@ row-exactly κ h o =
     let l : Leavable κ o ↔ Packs Room o = left-by (Line κ) Room (has-room κ) κ (has-line κ (talker κ h)) o in
     (λ x. decides o .0 (l .0 x), λ x. l .1 (decides o .1 x))
 
--- a line of some row
-abbrev Accepted : Gsv Satellite → Type 0
-Accepted g = Line (g .key) g
+-- a line that has room for its entries
+abbrev Roomy : Gsv Satellite → Type 0
+Roomy g = Room (g .view) (g .sats)
 
-accepted-room : (g : Gsv Satellite) → Accepted g → Room (g .view) (g .sats)
-accepted-room g = has-room (g .key) g
+roomy : (g : Gsv Satellite) → Roomy g → Room (g .view) (g .sats)
+roomy g r = r
 
-stands-sound : (r : Option (Open Satellite)) → Stands r → Sound Accepted Room accepted-room r
+stands-sound : (r : Option (Open Satellite)) → Stands r → Sound Roomy Room roomy r
 stands-sound none s = tt
 stands-sound (some o) s = decides o .1 s
 
-sound-stands : (r : Option (Open Satellite)) → Sound Accepted Room accepted-room r → Stands r
+sound-stands : (r : Option (Open Satellite)) → Sound Roomy Room roomy r → Stands r
 sound-stands none s = tt
 sound-stands (some o) s = decides o .0 s
 
 -- an accepted line leaves a row that stands, or an empty one
 pub stands-step : (r : Option (Open Satellite)) (l : List ℕ) (h : GsvSentence) → answer l ≡ isGsv h → Stands r → Stands (step r (lineOf h) .row)
-stands-step r l h e s =
-    let q : Accepted (lineOf h) = record { sentence = h; written = record { line = l; accepted = e }; says = refl; mine = refl } in
-    sound-stands (step r (lineOf h) .row) (sound-step Accepted Room accepted-room r (lineOf h) (stands-sound r s) q)
+stands-step r l h e s = sound-stands (step r (lineOf h) .row) (sound-step Roomy Room roomy r (lineOf h) (stands-sound r s) (room l h e))
 
 -- at most eight lines have come, of four entries each
 pub few-entries : (o : Open Satellite) → leavable o ≡ true → length (o .sats) ≤ 36

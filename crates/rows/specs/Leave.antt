@@ -18,7 +18,7 @@ use Rattle.short.specs.Room.{beside, Written}
 use Rattle.pack.specs.Cut.{pieceCount}
 use Rattle.rows.specs.Line.{lineOf}
 
--- some byte string is accepted as this line, and belongs to the row κ
+-- some line that a log can have is accepted as this line, and belongs to the row κ
 pub record Line (κ : ℕ) (g : Gsv Satellite) : Type 0 where
   pub sentence : GsvSentence
   pub written : Written sentence

@@ -19,10 +19,11 @@ record Digit (k : ℕ) : Type 0 where
   pub letter : ℕ
   pub value : digit letter ≡ some k
   pub first : leadDigit letter ≡ some k
+  pub above : byte "+" < letter
   pub low : letter < 128
 
 as-digit : (k b : ℕ) → digit b ≡ some k → byte "+" < b → b < 128 → Digit k
-as-digit k b e l h = record { letter = b; value = e; first = rw (ne-eqb b (byte "+") (λ z. omega arith)) e; low = h }
+as-digit k b e l h = record { letter = b; value = e; first = rw (ne-eqb b (byte "+") (λ z. omega arith)) e; above = l; low = h }
 
 digit-for : (k : ℕ) → k < 16 → Digit k
 digit-for k h = by (ltb k 10) refl
@@ -42,6 +43,8 @@ pub record Digits (x : ℕ) : Type 0 where
   pub high : ℕ
   pub low : ℕ
   pub is : hex (high ∷ low ∷ []) ≡ some x
+  pub high-above : byte "+" < high
+  pub low-above : byte "+" < low
   pub high-ascii : high < 128
   pub low-ascii : low < 128
 
@@ -55,6 +58,8 @@ digits-for x h =
       high = a .letter;
       low = b .letter;
       is = rw (a .first, b .value) (ap some z);
+      high-above = a .above;
+      low-above = b .above;
       high-ascii = a .low;
       low-ascii = b .low;
     }

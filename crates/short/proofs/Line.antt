@@ -1,6 +1,6 @@
 -- WHAT AN ACCEPTED GSV LINE HAS ROOM FOR. Its framing takes ten bytes and its data no fewer than their shortest text, so there is room
 -- for its entries; and where there is room the shortest text, with its checksum, is such a line. Assumes nothing.
-use Prim.Native.Nat.{ℕ, _+_, _≤_, _<_}
+use Prim.Native.Nat.{ℕ, _+_, _≤_}
 use native.Mathlib.Omega.{arith}
 use mathlib.Core.Path.{_≡_, refl, ap, _∙_}
 use mathlib.Core.Bool.{true}
@@ -9,6 +9,7 @@ use mathlib.Core.Option.{Option, some}
 use lib.ListN.{length, length-append}
 use borrow.Author.Tests.{le-leb, lt-ltb, eq-eqb}
 use Rattle.utf8.specs.Utf8.{ascii}
+use Rattle.lines.specs.Lines.{Lined}
 use Rattle.text.specs.Bytes.{byte, bytes}
 use Rattle.text.specs.Reader.{Parse, got}
 use Rattle.text.specs.Value.{value}
@@ -27,7 +28,7 @@ use Rattle.short.specs.Texts.{dataText, bodyOf}
 use Rattle.short.specs.Room.{Room, Written}
 use Rattle.short.proofs.Digits.{some-digit, digit-one}
 use Rattle.short.proofs.Texts.{gsv-back, gsv-eats, data-length}
-use Rattle.short.proofs.Plain.{ascii-append, data-ascii, data-clear}
+use Rattle.short.proofs.Plain.{Above, above-append, above-lined, ascii-append, data-above, data-ascii, data-clear}
 use Rattle.short.proofs.Hex.{Digits, digits-for, sum-below}
 use Rattle.short.proofs.Answered.{answered}
 
@@ -65,12 +66,16 @@ known : listed types (bytes "GSV") ≡ true
 unfolding types listed alike
 known = refl
 
+-- a letter of a talker
+abbrev pub Letter : ℕ → Type 0
+Letter b = (byte "A" ≤ b) × (b ≤ byte "Z")
+
 -- a GSV line with a talker and data of ASCII bytes
-module _ (a b : ℕ) (text : List ℕ) (a-low : a < 128) (b-low : b < 128) (low : ascii text ≡ true) where
+module _ (a b : ℕ) (text : List ℕ) (first : Letter a) (second : Letter b) (low : ascii text ≡ true) where
   -- what the checksum is taken of, before some text
   headed : (l : List ℕ) → ascii l ≡ true → ascii (a ∷ b ∷ (bytes "GSV" ++ (byte "," ∷ l))) ≡ true
   unfolding ascii
-  headed l e = rw (lt-ltb a 128 a-low, lt-ltb b 128 b-low) e
+  headed l e = rw (lt-ltb a 128 (omega (arith, first)), lt-ltb b 128 (omega (arith, second))) e
 
   abbrev summed : ℕ
   summed = checksum (a ∷ b ∷ (bytes "GSV" ++ (byte "," ∷ text)))
@@ -94,6 +99,13 @@ module _ (a b : ℕ) (text : List ℕ) (a-low : a < 128) (b-low : b < 128) (low 
       headed (text ++ ending)
       (ascii-append text ending low (rw (lt-ltb (digits .high) 128 (digits .high-ascii), lt-ltb (digits .low) 128 (digits .low-ascii))))
 
+  line-lined : Above text → Lined line
+  line-lined h =
+      let d = digits in
+      let end : Above ending = (omega arith, (omega (arith, d .high-above), (omega (arith, d .low-above), tt))) in
+      let more : Above (text ++ ending) = above-append text ending h end in
+      above-lined line (omega arith, (omega (arith, first), (omega (arith, second), (omega arith, (omega arith, (omega arith, (omega arith, more)))))))
+
   framed : Clear (byte "*") text → 10 + length text ≤ maxLength → frame line ≡ accepted parts
   unfolding sized
   framed clear h =
@@ -112,7 +124,7 @@ module _ (a b : ℕ) (text : List ℕ) (a-low : a < 128) (b-low : b < 128) (low 
       ∙ ap (λ (x : Parse Gsv). orRefused (λ g. isGsv (record { talker = a ∷ b ∷ []; system = s; body = g })) (value x)) r
 
 -- where there is room some line is accepted
-pub line-of : (a b : ℕ) (s : System) (n k v : ℕ) (es : List Satellite) → systemOf a b ≡ some s → a < 128 → b < 128 → n ≤ 9 → k ≤ 9 → Room v es
+pub line-of : (a b : ℕ) (s : System) (n k v : ℕ) (es : List Satellite) → systemOf a b ≡ some s → Letter a → Letter b → n ≤ 9 → k ≤ 9 → Room v es
     → Written (record { talker = a ∷ b ∷ []; system = s; body = bodyOf n k v es })
 line-of a b s n k v es e ha hb hn hk r =
     let text = dataText n k v es in
@@ -122,6 +134,7 @@ line-of a b s n k v es e ha hb hn hk r =
     let short : 10 + length text ≤ maxLength = omega (arith, data-length n k v es, r .bytes) in
     record {
       line = line a b text ha hb low;
+      lined = line-lined a b text ha hb low (data-above n k v es);
       accepted =
           read a b text ha hb low (framed a b text ha hb low (data-clear n k v es) short) e
           (gsv-back n k v es (omega arith) (omega arith) (r .view) (r .each));

@@ -1,13 +1,15 @@
--- The shortest data are digits and commas: so they are ASCII, and have no `*`. Assumes nothing.
-use Prim.Native.Nat.{ℕ, _≤_, _<_}
+-- The shortest data are digits and commas: so they are ASCII, have no `*`, and nothing in them ends a line. Assumes nothing.
+use Prim.Native.Nat.{ℕ, zero, suc, _≤_, _<_}
 use native.Mathlib.Omega.{arith}
 use mathlib.Core.Path.{_≡_, refl}
 use mathlib.Core.Bool.{true, and-eq-true-iff}
 use mathlib.Core.List.{List, [], _∷_, _++_}
 use mathlib.Core.Option.{Option, none, some}
 use lib.Dec.{ltb}
+use lib.ListN.{getD}
 use borrow.Author.Tests.{lt-ltb}
 use Rattle.utf8.specs.Utf8.{ascii}
+use Rattle.lines.specs.Lines.{carriageReturn, Lined}
 use Rattle.text.specs.Bytes.{byte}
 use Rattle.frame.proofs.Until.{Clear, none as clear-none, more as clear-more}
 use Rattle.gsv.specs.Gsv.{Satellite}
@@ -74,9 +76,35 @@ plain-clear (b ∷ l) p =
     let other : b ≡ byte "*" → ⊥ = λ e. omega arith in
     clear-more other (plain-clear l (p .1))
 
+-- each byte is above the carriage return, and so above the line feed
+abbrev pub Above : List ℕ → Type 0
+Above [] = Unit {0}
+Above (b ∷ l) = (carriageReturn < b) × Above l
+
+pub above-append : (a b : List ℕ) → Above a → Above b → Above (a ++ b)
+above-append [] b p q = q
+above-append (x ∷ a) b p q = (p .0, above-append a b (p .1) q)
+
+plain-above : (l : List ℕ) → Plain l → Above l
+plain-above [] p = tt
+plain-above (b ∷ l) p = (omega arith, plain-above l (p .1))
+
+no-such : (c : ℕ) → 0 < c → c ≤ carriageReturn → (l : List ℕ) → Above l → (i : ℕ) → getD l i 0 ≡ c → ⊥
+no-such c z h [] p zero e = omega arith
+no-such c z h [] p (suc i) e = omega arith
+no-such c z h (b ∷ l) p zero e = omega (arith, p .0)
+no-such c z h (b ∷ l) p (suc i) e = no-such c z h l (p .1) i e
+
+-- such bytes are a line that a log can have
+pub above-lined : (l : List ℕ) → Above l → Lined l
+above-lined l p = record { no-feed = no-such 10 (omega arith) (omega arith) l p; no-return = no-such 13 (omega arith) (omega arith) l p _ }
+
 module _ (n k v : ℕ) (es : List Satellite) where
   pub data-ascii : ascii (dataText n k v es) ≡ true
   data-ascii = plain-ascii (dataText n k v es) (data-plain n k v es)
+
+  pub data-above : Above (dataText n k v es)
+  data-above = plain-above (dataText n k v es) (data-plain n k v es)
 
   pub data-clear : Clear (byte "*") (dataText n k v es)
   data-clear = plain-clear (dataText n k v es) (data-plain n k v es)

@@ -3,6 +3,7 @@ use Prim.Native.Nat.{ℕ, _+_, _≤_}
 use mathlib.Core.Path.{_≡_}
 use mathlib.Core.List.{List}
 use lib.ListN.{length}
+use Rattle.lines.specs.Lines.{Lined}
 use Rattle.frame.specs.Frame.{maxLength}
 use Rattle.gsv.specs.Gsv.{countMax, Satellite}
 use Rattle.sentence.specs.Sentence.{GsvSentence, answer, isGsv}
@@ -21,7 +22,8 @@ pub record Room (v : ℕ) (es : List Satellite) : Type 0 where
   pub four : length es ≤ 4
   pub bytes : beside + length (digitsOf v) + length (entriesText es) ≤ maxLength
 
--- some line is accepted as this sentence
+-- some line that a log can have is accepted as this sentence
 pub record Written (s : GsvSentence) : Type 0 where
   pub line : List ℕ
   pub accepted : answer line ≡ isGsv s
+  pub lined : Lined line

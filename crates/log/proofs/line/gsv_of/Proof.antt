@@ -1,9 +1,9 @@
 -- `gsv_of` meets its contract, case by case. Assumes nothing.
 use mathlib.Core.Path.{ap, sym, _∙_}
 use mathlib.Core.List.{[]}
+use Rattle.fed.specs.Line.{gsvOf}
 use Rattle.log.specs.declared.line.Said.{Said}
 use Rattle.log.specs.declared.line.Said.the-variants.{Read}
-use Rattle.log.specs.Line.{gsvOf}
 use Rattle.log.specs.Answer.{saidIn}
 use borrow.Author.Needs.{needs}
 use Rattle.log.proofs.line.gsv_of.Statement.{statement}

@@ -1,6 +1,7 @@
--- What a line of the log is, and what it does to the gatherer.
+-- What a line is, and what it does to the gatherer.
 use Prim.Native.Nat.{ℕ}
-use mathlib.Core.List.{List, [], _∷_}
+use mathlib.Core.List.{List, [], _∷_, map}
+use mathlib.Core.Bool.{Bool, true, false}
 use mathlib.Core.Option.{Option, none, some}
 use Rattle.sentence.specs.Sentence.{Answer, isRmc, isGsa, isGsv, isOther, isRefused, GsvSentence, answer}
 use Rattle.gather.specs.declared.table.Gatherer.{Gatherer}
@@ -17,6 +18,31 @@ pub data Said : Type 0 where
 abbrev pub saidOf : List ℕ → Said
 saidOf [] = blank
 saidOf (b ∷ l) = read (answer (b ∷ l))
+
+abbrev pub saidAll : List (List ℕ) → List Said
+saidAll ls = map saidOf ls
+
+-- "lines are blank, accepted or refused, each counted from the log"
+abbrev pub isBlank : Said → Bool
+isBlank blank = true
+isBlank (read a) = false
+
+abbrev pub isRefusal : Said → Bool
+isRefusal blank = false
+isRefusal (read (isRmc r)) = false
+isRefusal (read (isGsa g)) = false
+isRefusal (read (isGsv s)) = false
+isRefusal (read (isOther k)) = false
+isRefusal (read (isRefused r)) = true
+
+-- "Other is accepted"
+abbrev pub isAccepted : Said → Bool
+isAccepted blank = false
+isAccepted (read (isRmc r)) = true
+isAccepted (read (isGsa g)) = true
+isAccepted (read (isGsv s)) = true
+isAccepted (read (isOther k)) = true
+isAccepted (read (isRefused r)) = false
 
 -- the accepted GSV sentence that a line is
 abbrev pub gsvOf : Said → Option GsvSentence

@@ -1,0 +1,39 @@
+-- A gatherer that is fed lines, any number of them, and counts over them.
+use Prim.Native.Nat.{ℕ, _+_}
+use mathlib.Core.List.{List, [], _∷_}
+use mathlib.Core.Bool.{Bool, true, false}
+use lib.ListN.{take, getD}
+use Rattle.gather.specs.Table.{freshGatherer}
+use Rattle.gather.specs.declared.table.Gatherer.{Gatherer}
+use Rattle.gather.specs.declared.table.Gathered.{Gathered}
+use Rattle.gather.specs.declared.table.Handed.{Handed}
+use Rattle.gather.specs.declared.table.Handed.the-variants.{Nothing, Of}
+use Rattle.fed.specs.Line.{Said, blank, gsvOf, gathers}
+
+-- a Bool as the number of times that it is so
+abbrev pub onceIf : Bool → ℕ
+onceIf true = 1
+onceIf false = 0
+
+-- how many of them pass a test
+abbrev pub howMany : (Said → Bool) → List Said → ℕ
+howMany t [] = 0
+howMany t (s ∷ ss) = onceIf (t s) + howMany t ss
+
+-- the gatherer after some lines
+abbrev pub gathered : Gatherer → List Said → Gatherer
+gathered g [] = g
+gathered g (s ∷ ss) = gathered (gathers g (gsvOf s) .gatherer) ss
+
+-- what the line at i does: "Demand 3 speaks of place 0 and a fresh gatherer", so to one that was fresh before the first line
+abbrev pub fedAt : List Said → ℕ → Gathered
+fedAt ss i = gathers (gathered freshGatherer (take i ss)) (gsvOf (getD ss i blank))
+
+abbrev pub isHanded : Handed → Bool
+isHanded Nothing = false
+isHanded (Of s) = true
+
+-- how many of them hand out a group
+abbrev pub groupsOf : Gatherer → List Said → ℕ
+groupsOf g [] = 0
+groupsOf g (s ∷ ss) = onceIf (isHanded (gathers g (gsvOf s) .handed)) + groupsOf (gathers g (gsvOf s) .gatherer) ss

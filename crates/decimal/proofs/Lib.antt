@@ -7,3 +7,4 @@ pub mod Steps
 pub mod Facts
 pub mod Exactly
 pub mod NotNan
+pub mod Number

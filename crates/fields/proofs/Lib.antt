@@ -2,3 +2,4 @@ pub mod Clock
 pub mod Calendar
 pub mod Sign
 pub mod Steps
+pub mod Number

@@ -8,9 +8,9 @@ use lib.Dec.{eqb, leb}
 use lib.ListN.{length, take, drop}
 use Rattle.utf8.specs.Utf8.{utf8, ascii}
 use Rattle.text.specs.Bytes.{byte}
-use Rattle.text.specs.Reader.{Fault, UnknownType, Number, BadTime, Parse, miss, refuse, got, _>>=_, char, until, orMiss}
+use Rattle.text.specs.Reader.{UnknownType, Number, BadTime, Parse, miss, refuse, got, char, until}
 use Rattle.text.proofs.Faults.{Never, clear-miss, clear-got, clear-cond, never-bind, never-pure, never-orMiss, never-char, never-until}
-use Rattle.frame.specs.Refused.{Refused, badUtf8, notAscii, tooLong, badNumber}
+use Rattle.frame.specs.Refused.{badUtf8, notAscii, tooLong, badNumber}
 use Rattle.frame.specs.Types.{types, listed}
 use Rattle.frame.specs.Digits.{hex}
 use Rattle.frame.specs.Frame.{maxLength, dataFrom, Parts, taken, known, sentenceType, checksumField, sentence, Outcome, accepted, refused, calculated, compared, judged, sized, frame}

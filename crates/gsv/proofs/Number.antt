@@ -1,8 +1,8 @@
 -- The data of a GSV sentence is never answered Number: it has no decimal place. Assumes nothing.
 use Prim.Native.Nat.{ℕ}
-use mathlib.Core.List.{List, [], _∷_}
+use mathlib.Core.List.{[], _∷_}
 use Rattle.text.specs.Bytes.{byte}
-use Rattle.text.specs.Reader.{Number, _>>=_, opt, char}
+use Rattle.text.specs.Reader.{Number, opt, char}
 use Rattle.text.specs.Number.{number}
 use Rattle.text.proofs.Faults.{Never, clear-got, never-bind, never-pure, never-opt, never-char, never-number}
 use Rattle.gsv.specs.Gsv.{countMax, idMax, placeMax, closing, counted, cell, entry, gsv}

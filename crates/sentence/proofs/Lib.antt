@@ -4,3 +4,4 @@ pub mod Beside
 pub mod Types
 pub mod Worked
 pub mod OneByte
+pub mod Number

@@ -5,11 +5,11 @@ use Prim.Native.Nat.{ℕ}
 use native.Mathlib.Omega.{arith}
 use mathlib.Core.Path.{_≡_, refl, ap, sym, _∙_}
 use mathlib.Core.Bool.{Bool, true, false, cond}
-use mathlib.Core.List.{List}
-use mathlib.Core.Logic.{_⊎_, inl, inr}
+use mathlib.Core.List.{List, []}
+use mathlib.Core.Logic.{_↔_, _⊎_, inl, inr}
 use mathlib.Core.Option.{Option, none, some}
 use Rattle.text.specs.Bytes.{bytes}
-use Rattle.text.specs.Reader.{Fault, UnknownType, Number, BadTime, Parse, miss, refuse, got, Reader}
+use Rattle.text.specs.Reader.{UnknownType, Number, BadTime, Parse, miss, refuse, got, Reader}
 use Rattle.text.specs.Value.{value}
 use Rattle.decimal.proofs.Number.{Place, OneBad, NumberAt, never}
 use Rattle.frame.specs.Refused.{badNumber, wrongHeader}
@@ -18,12 +18,10 @@ use Rattle.frame.specs.Frame.{Parts, Outcome, accepted, refused, frame}
 use Rattle.frame.proofs.Texts.{alike-equal, alike-self}
 use Rattle.frame.proofs.Number.{never-framed}
 use Rattle.gsv.specs.Talker.{System}
-use Rattle.gsv.specs.Gsv.{Gsv, gsv}
 use Rattle.gsv.proofs.Number.{never-gsv}
 use Rattle.gsa.specs.System.{Settled, absent, is as settledAs, mismatch, settle}
-use Rattle.gsa.specs.Gsa.{Gsa, gsa}
+use Rattle.gsa.specs.Gsa.{Gsa}
 use Rattle.gsa.proofs.Number.{gsaPlaces, gsa-number}
-use Rattle.rmc.specs.Rmc.{Rmc, rmc}
 use Rattle.rmc.proofs.Number.{rmcPlaces, rmc-number}
 use Rattle.sentence.proofs.Types.{to-rmc, to-gsa}
 use Rattle.sentence.specs.Sentence.{Answer, isRmc, isGsa, isGsv, isOther, isRefused, orRefused, rmcOf, gsaNames, settledGsa, gsaOf, gsvNames, gsvBy, gsvOf, framedBy, dispatch, answer, ofType, parseRmc, parseGsa, parseGsv}
@@ -54,11 +52,11 @@ other : {a : Answer} → (numbered a ≡ 9 → ⊥) → IsNine a → ⊥
 unfolding numbered
 other h e = h (ap numbered e)
 
--- a reader of data, whose records are none of these refusals
+-- a reader of data, where no record of it is answered so
 module _ {A : Type 0} (f : A → Answer) (h : (a : A) → IsNine (f a) → ⊥) {r : Reader A} {ps : List Place} (at : NumberAt r ps) (t : List ℕ) where
-  data-only : IsNine (orRefused f (value (r t))) → OneBad ps t
+  data-nine : IsNine (orRefused f (value (r t))) ↔ OneBad ps t
   unfolding numbered
-  data-only e = at .only t (by (r t) e)
+  data-nine = (λ e. at .only t (by (r t) e), λ x. ap (λ (p : Parse A). orRefused f (value p)) (at .there t x))
     where
       by : (p : Parse A) → IsNine (orRefused f (value p)) → p ≡ refuse Number
       by miss e = absurd (other (λ x. omega arith) e)
@@ -66,9 +64,6 @@ module _ {A : Type 0} (f : A → Answer) (h : (a : A) → IsNine (f a) → ⊥) 
       by (refuse Number) e = refl
       by (refuse BadTime) e = absurd (other (λ x. omega arith) e)
       by (got a m) e = absurd (h a e)
-
-  data-there : OneBad ps t → IsNine (orRefused f (value (r t)))
-  data-there x = ap (λ (p : Parse A). orRefused f (value p)) (at .there t x)
 
 settled-clear : (t : List ℕ) (g : Gsa) (x : Settled) → IsNine (settledGsa t g x) → ⊥
 unfolding numbered
@@ -78,96 +73,100 @@ settled-clear t g (mismatch m n) = other (λ e. omega arith)
 
 -- a framed sentence
 module _ (p : Parts) where
-  rmc-clear : (d : Rmc) → IsNine (isRmc d) → ⊥
+  rmc-data : IsNine (rmcOf p) ↔ OneBad rmcPlaces (p .text)
   unfolding numbered
-  rmc-clear d = other (λ e. omega arith)
+  rmc-data = data-nine isRmc (λ d. other (λ e. omega arith)) rmc-number (p .text)
 
-  rmc-only : IsNine (rmcOf p) → OneBad rmcPlaces (p .text)
-  rmc-only = data-only isRmc rmc-clear rmc-number (p .text)
+  gsa-data : IsNine (gsaOf p) ↔ OneBad gsaPlaces (p .text)
+  gsa-data = data-nine _ (λ g. settled-clear (p .talker) g (settle (gsaNames (p .talker)) (g .system))) gsa-number (p .text)
 
-  rmc-there : OneBad rmcPlaces (p .text) → IsNine (rmcOf p)
-  rmc-there = data-there isRmc rmc-clear rmc-number (p .text)
-
-  abbrev settled : Gsa → Answer
-  settled g = settledGsa (p .talker) g (settle (gsaNames (p .talker)) (g .system))
-
-  gsa-clear : (g : Gsa) → IsNine (settled g) → ⊥
-  gsa-clear g = settled-clear (p .talker) g (settle (gsaNames (p .talker)) (g .system))
-
-  gsa-only : IsNine (gsaOf p) → OneBad gsaPlaces (p .text)
-  gsa-only = data-only settled gsa-clear gsa-number (p .text)
-
-  gsa-there : OneBad gsaPlaces (p .text) → IsNine (gsaOf p)
-  gsa-there = data-there settled gsa-clear gsa-number (p .text)
-
-  gsv-clear : IsNine (gsvOf p) → ⊥
+  gsv-data : IsNine (gsvOf p) ↔ OneBad [] (p .text)
   unfolding numbered
-  gsv-clear e = by (gsvNames (p .talker)) e
+  gsv-data = (λ e. by (gsvNames (p .talker)) e, λ x. absurd x)
     where
       by : (o : Option System) → IsNine (gsvBy o p) → ⊥
       by none e = other (λ x. omega arith) e
       by (some y) e =
-          data-only (λ g. isGsv (record { talker = p .talker; system = y; body = g })) (λ g. other (λ x. omega arith)) (never never-gsv) (p .text) e
+          data-nine (λ g. isGsv (record { talker = p .talker; system = y; body = g })) (λ g. other (λ x. omega arith)) (never never-gsv) (p .text) .0 e
 
-  -- of this type, and one of these places is bad
-  record Kind (kind : List ℕ) (ps : List Place) : Type 0 where
-    is-kind : p .kind ≡ kind
-    bad : OneBad ps (p .text)
-
-  dispatch-only : IsNine (dispatch p) → Kind (bytes "RMC") rmcPlaces ⊎ Kind (bytes "GSA") gsaPlaces
+  dispatch-only : (C : Type 0) → (p .kind ≡ bytes "RMC" → OneBad rmcPlaces (p .text) → C) → (p .kind ≡ bytes "GSA" → OneBad gsaPlaces (p .text) → C)
+      → IsNine (dispatch p) → C
   unfolding dispatch numbered
-  dispatch-only e = by (alike (p .kind) (bytes "RMC")) (alike (p .kind) (bytes "GSA")) (alike (p .kind) (bytes "GSV")) refl refl e
+  dispatch-only C in-rmc in-gsa e = by (alike (p .kind) (bytes "RMC")) (alike (p .kind) (bytes "GSA")) (alike (p .kind) (bytes "GSV")) refl refl e
     where
       by : (x y z : Bool) → alike (p .kind) (bytes "RMC") ≡ x → alike (p .kind) (bytes "GSA") ≡ y
-          → IsNine (cond x (rmcOf p) (cond y (gsaOf p) (cond z (gsvOf p) (isOther (p .kind))))) → Kind (bytes "RMC") rmcPlaces ⊎ Kind (bytes "GSA") gsaPlaces
-      by true y z f g e = inl (record { is-kind = alike-equal (p .kind) (bytes "RMC") f; bad = rmc-only e })
-      by false true z f g e = inr (record { is-kind = alike-equal (p .kind) (bytes "GSA") g; bad = gsa-only e })
-      by false false true f g e = absurd (gsv-clear e)
+          → IsNine (cond x (rmcOf p) (cond y (gsaOf p) (cond z (gsvOf p) (isOther (p .kind))))) → C
+      by true y z f g e = in-rmc (alike-equal (p .kind) (bytes "RMC") f) (rmc-data .0 e)
+      by false true z f g e = in-gsa (alike-equal (p .kind) (bytes "GSA") g) (gsa-data .0 e)
+      by false false true f g e = absurd (gsv-data .0 e)
       by false false false f g e = absurd (other (λ x. omega arith) e)
 
   alike-is : {name : List ℕ} → p .kind ≡ name → alike (p .kind) name ≡ true
   alike-is {name} e = ap (λ (k : List ℕ). alike k name) e ∙ alike-self name
 
-  dispatch-rmc : Kind (bytes "RMC") rmcPlaces → IsNine (dispatch p)
-  dispatch-rmc k = sym (to-rmc p refl (alike-is (k .is-kind))) ∙ rmc-there (k .bad)
+  dispatch-rmc : p .kind ≡ bytes "RMC" → OneBad rmcPlaces (p .text) → IsNine (dispatch p)
+  dispatch-rmc k b = sym (to-rmc p refl (alike-is k)) ∙ rmc-data .1 b
 
-  dispatch-gsa : Kind (bytes "GSA") gsaPlaces → IsNine (dispatch p)
-  dispatch-gsa k = sym (to-gsa p refl no-rmc refl (alike-is (k .is-kind))) ∙ gsa-there (k .bad)
+  dispatch-gsa : p .kind ≡ bytes "GSA" → OneBad gsaPlaces (p .text) → IsNine (dispatch p)
+  dispatch-gsa k b = sym (to-gsa p refl no-rmc refl (alike-is k)) ∙ gsa-data .1 b
     where
       no-rmc : alike (p .kind) (bytes "RMC") ≡ false
-      no-rmc = ap (λ (k : List ℕ). alike k (bytes "RMC")) (k .is-kind) ∙ unfold alike in refl
+      no-rmc = ap (λ (n : List ℕ). alike n (bytes "RMC")) k ∙ unfold alike in refl
 
 -- what is not framed is refused for another reason
 module _ (r : Parts → Answer) (l : List ℕ) where
-  record Framed : Type 0 where
-    parts : Parts
-    framed : frame l ≡ accepted parts
-    nine : IsNine (r parts)
-
-  framed-only : IsNine (framedBy r (frame l)) → Framed
-  framed-only e = by (frame l) refl e
+  framed-only : (C : Type 0) → ((p : Parts) → frame l ≡ accepted p → IsNine (r p) → C) → IsNine (framedBy r (frame l)) → C
+  framed-only C go e = by (frame l) refl e
     where
-      by : (o : Outcome) → frame l ≡ o → IsNine (framedBy r o) → Framed
-      by (accepted p) f e = record { parts = p; framed = f; nine = e }
+      by : (o : Outcome) → frame l ≡ o → IsNine (framedBy r o) → C
+      by (accepted p) f e = go p f e
       by (refused x) f e = let y : refused x ≡ refused badNumber = cc in absurd (never-framed l (f ∙ y))
 
-  framed-there : (p : Parts) → frame l ≡ accepted p → IsNine (r p) → IsNine (framedBy r (frame l))
-  framed-there p f e = ap (framedBy r) f ∙ e
+  framed-there : {p : Parts} → frame l ≡ accepted p → IsNine (r p) → IsNine (framedBy r (frame l))
+  framed-there f e = ap (framedBy r) f ∙ e
+
+-- a reader of one type
+module _ (name : List ℕ) (r : Parts → Answer) (ps : List Place) (h : (p : Parts) → IsNine (r p) ↔ OneBad ps (p .text)) (l : List ℕ) where
+  typed-nine : IsNine (framedBy (ofType name r) (frame l)) ↔ BadPlace name ps l
+  unfolding numbered
+  typed-nine = (framed-only (ofType name r) l (BadPlace name ps l) (λ p f e. by p f (alike (p .kind) name) refl e), there)
+    where
+      by : (p : Parts) → frame l ≡ accepted p → (t : Bool) → alike (p .kind) name ≡ t
+          → IsNine (cond t (r p) (isRefused (wrongHeader name (p .kind)))) → BadPlace name ps l
+      by p f true g e = record { parts = p; framed = f; is-kind = alike-equal (p .kind) name g; bad = h p .0 e }
+      by p f false g e = absurd (other (λ x. omega arith) e)
+
+      there : BadPlace name ps l → IsNine (framedBy (ofType name r) (frame l))
+      there b =
+          let p = b .parts in
+          framed-there (ofType name r) l (b .framed)
+          (ap (λ (t : Bool). cond t (r p) (isRefused (wrongHeader name (p .kind)))) (alike-is p (b .is-kind)) ∙ h p .1 (b .bad))
 
 module _ (l : List ℕ) where
   -- 9 where one of the places is bad
   pub nine-where : Nine l → answer l ≡ isRefused badNumber
   unfolding answer
-  nine-where (inl b) = framed-there dispatch l (b .parts) (b .framed) (dispatch-rmc (b .parts) (record { is-kind = b .is-kind; bad = b .bad }))
-  nine-where (inr b) = framed-there dispatch l (b .parts) (b .framed) (dispatch-gsa (b .parts) (record { is-kind = b .is-kind; bad = b .bad }))
+  nine-where (inl b) = framed-there dispatch l (b .framed) (dispatch-rmc (b .parts) (b .is-kind) (b .bad))
+  nine-where (inr b) = framed-there dispatch l (b .framed) (dispatch-gsa (b .parts) (b .is-kind) (b .bad))
 
   -- 9 only there
   pub nine-only : answer l ≡ isRefused badNumber → Nine l
   unfolding answer
-  nine-only e =
-      let x = framed-only dispatch l e in
-      by (x .parts) (x .framed) (dispatch-only (x .parts) (x .nine))
-    where
-      by : (p : Parts) → frame l ≡ accepted p → Kind p (bytes "RMC") rmcPlaces ⊎ Kind p (bytes "GSA") gsaPlaces → Nine l
-      by p f (inl k) = inl (record { parts = p; framed = f; is-kind = k .is-kind; bad = k .bad })
-      by p f (inr k) = inr (record { parts = p; framed = f; is-kind = k .is-kind; bad = k .bad })
+  nine-only =
+      framed-only dispatch l (Nine l)
+      (λ p f. dispatch-only p (Nine l)
+      (λ k b. inl (record { parts = p; framed = f; is-kind = k; bad = b }))
+      (λ k b. inr (record { parts = p; framed = f; is-kind = k; bad = b })))
+
+  -- and so of the readers of one type: that of GSV never answers 9
+  pub rmc-nine : (parseRmc l ≡ isRefused badNumber) ↔ BadPlace (bytes "RMC") rmcPlaces l
+  unfolding parseRmc
+  rmc-nine = typed-nine (bytes "RMC") rmcOf rmcPlaces rmc-data l
+
+  pub gsa-nine : (parseGsa l ≡ isRefused badNumber) ↔ BadPlace (bytes "GSA") gsaPlaces l
+  unfolding parseGsa
+  gsa-nine = typed-nine (bytes "GSA") gsaOf gsaPlaces gsa-data l
+
+  pub gsv-nine : parseGsv l ≡ isRefused badNumber → ⊥
+  unfolding parseGsv
+  gsv-nine e = typed-nine (bytes "GSV") gsvOf [] gsv-data l .0 e .bad

@@ -1,7 +1,7 @@
 -- 01: "A non-empty text that is not a plain decimal within limits is Number, exactly then .. Checks run left to right." The data of
 -- an RMC sentence has six decimal places, and is answered Number exactly where one of them is reached and bad: each place stands
 -- behind what the parts before it read, and no other part answers Number. Assumes nothing.
-use mathlib.Core.List.{List, [], _∷_}
+use mathlib.Core.List.{List, [], _∷_, _++_}
 use mathlib.Core.Option.{Option, none, some}
 use Prim.Native.Nat.{ℕ}
 use Rattle.text.specs.Bytes.{byte}
@@ -11,7 +11,7 @@ use Rattle.text.proofs.Faults.{Never, never-bind, never-pure, never-opt, never-
 use Rattle.decimal.specs.Decimal.{short, long}
 use Rattle.decimal.proofs.Number.{Place, place, here, NumberAt, behind, never, both, first, short-number}
 use Rattle.fields.specs.Position.{latitude}
-use Rattle.fields.proofs.Number.{variationPlaces, time-number, never-date, position-number, variation-number}
+use Rattle.fields.proofs.Number.{timePlaces, positionPlaces, variationPlaces, time-number, never-date, position-number, variation-number}
 use Rattle.rmc.specs.Rmc.{fixLetters, modeLetters, statusLetters, withComma, timePlace, statusPlace, shortPlace, datePlace, ifComma, optLetter, fixPart, motion, letters, ending, rmc}
 
 -- what is read before each place
@@ -54,9 +54,6 @@ beforeVariation = do
   motion
   here
 
-abbrev fixPlaces : List Place
-fixPlaces = place long beforeSeconds ∷ place long beforeLatitudeMinutes ∷ place long beforeLongitudeMinutes ∷ []
-
 abbrev pub rmcPlaces : List Place
 rmcPlaces =
     place long beforeSeconds
@@ -79,7 +76,7 @@ module _ {A : Type 0} where
   unfolding withComma
   with-comma h = first h never-rest
 
-fix-number : NumberAt fixPart fixPlaces
+fix-number : NumberAt fixPart (timePlaces ++ behind timePlace (behind statusPlace positionPlaces))
 unfolding fixPart
 fix-number =
     both (with-comma time-number)

@@ -5,3 +5,4 @@ pub mod Types
 pub mod Worked
 pub mod OneByte
 pub mod Number
+pub mod Nines

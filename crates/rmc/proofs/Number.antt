@@ -1,9 +1,9 @@
 -- 01: "A non-empty text that is not a plain decimal within limits is Number, exactly then .. Checks run left to right." The data of
 -- an RMC sentence has six decimal places, and is answered Number exactly where one of them is reached and bad: each place stands
 -- behind what the parts before it read, and no other part answers Number. Assumes nothing.
+use Prim.Native.Nat.{ℕ}
 use mathlib.Core.List.{List, [], _∷_, _++_}
 use mathlib.Core.Option.{Option, none, some}
-use Prim.Native.Nat.{ℕ}
 use Rattle.text.specs.Bytes.{byte}
 use Rattle.text.specs.Reader.{Reader, Number, _>>=_, _>>_, pure, opt, char, letterOf}
 use Rattle.text.specs.Number.{twoBytes, threeBytes}

@@ -27,7 +27,7 @@ use Rattle.sentence.proofs.Types.{to-rmc, to-gsa}
 use Rattle.sentence.specs.Sentence.{Answer, isRmc, isGsa, isGsv, isOther, isRefused, orRefused, rmcOf, gsaNames, settledGsa, gsaOf, gsvNames, gsvBy, gsvOf, framedBy, dispatch, answer, ofType, parseRmc, parseGsa, parseGsv}
 
 -- a line that is framed and of this type, with one of these places of its data reached and bad
-pub record BadPlace (kind : List ℕ) (ps : List Place) (l : List ℕ) : Type 0 where
+pub record BadDecimal (kind : List ℕ) (ps : List Place) (l : List ℕ) : Type 0 where
   pub parts : Parts
   pub framed : frame l ≡ accepted parts
   pub is-kind : parts .kind ≡ kind
@@ -35,7 +35,7 @@ pub record BadPlace (kind : List ℕ) (ps : List Place) (l : List ℕ) : Type 0 
 
 -- an RMC line or a GSA line
 abbrev pub Nine : List ℕ → Type 0
-Nine l = BadPlace (bytes "RMC") rmcPlaces l ⊎ BadPlace (bytes "GSA") gsaPlaces l
+Nine l = BadDecimal (bytes "RMC") rmcPlaces l ⊎ BadDecimal (bytes "GSA") gsaPlaces l
 
 -- an answer whose number is 9
 numbered : Answer → ℕ
@@ -124,16 +124,16 @@ framed-only r l C go e = by (frame l) refl e
 
 -- a reader of one type
 module _ (name : List ℕ) (r : Parts → Answer) (ps : List Place) (h : (p : Parts) → NineAt (r p) (OneBad ps (p .text))) (l : List ℕ) where
-  typed-nine : NineAt (framedBy (ofType name r) (frame l)) (BadPlace name ps l)
+  typed-nine : NineAt (framedBy (ofType name r) (frame l)) (BadDecimal name ps l)
   unfolding numbered
-  typed-nine = (framed-only (ofType name r) l (BadPlace name ps l) (λ p f e. by p f (alike (p .kind) name) refl e), there)
+  typed-nine = (framed-only (ofType name r) l (BadDecimal name ps l) (λ p f e. by p f (alike (p .kind) name) refl e), there)
     where
       by : (p : Parts) → frame l ≡ accepted p → (t : Bool) → alike (p .kind) name ≡ t
-          → IsNine (cond t (r p) (isRefused (wrongHeader name (p .kind)))) → BadPlace name ps l
+          → IsNine (cond t (r p) (isRefused (wrongHeader name (p .kind)))) → BadDecimal name ps l
       by p f true g e = record { parts = p; framed = f; is-kind = alike-equal (p .kind) name g; bad = h p .0 e }
       by p f false g e = absurd (omega arith)
 
-      there : BadPlace name ps l → framedBy (ofType name r) (frame l) ≡ isRefused badNumber
+      there : BadDecimal name ps l → framedBy (ofType name r) (frame l) ≡ isRefused badNumber
       there b =
           let p = b .parts in
           ap (framedBy (ofType name r)) (b .framed)
@@ -158,11 +158,11 @@ module _ (l : List ℕ) where
       (ap numbered e ∙ nine)
 
   -- and so of the readers of one type: that of GSV never answers 9
-  pub rmc-nine : (parseRmc l ≡ isRefused badNumber) ↔ BadPlace (bytes "RMC") rmcPlaces l
+  pub rmc-nine : (parseRmc l ≡ isRefused badNumber) ↔ BadDecimal (bytes "RMC") rmcPlaces l
   unfolding parseRmc numbered
   rmc-nine = let w = typed-nine (bytes "RMC") rmcOf rmcPlaces rmc-data l in (λ e. w .0 (ap numbered e), w .1)
 
-  pub gsa-nine : (parseGsa l ≡ isRefused badNumber) ↔ BadPlace (bytes "GSA") gsaPlaces l
+  pub gsa-nine : (parseGsa l ≡ isRefused badNumber) ↔ BadDecimal (bytes "GSA") gsaPlaces l
   unfolding parseGsa numbered
   gsa-nine = let w = typed-nine (bytes "GSA") gsaOf gsaPlaces gsa-data l in (λ e. w .0 (ap numbered e), w .1)
 

@@ -8,3 +8,4 @@ pub mod Facts
 pub mod Exactly
 pub mod NotNan
 pub mod Nearest
+pub mod Number

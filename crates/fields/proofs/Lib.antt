@@ -4,3 +4,4 @@ pub mod Gregorian
 pub mod Never
 pub mod Sign
 pub mod Steps
+pub mod Number

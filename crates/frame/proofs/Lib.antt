@@ -13,3 +13,4 @@ pub mod Judged
 pub mod OneByte
 pub mod Worked
 pub mod Within
+pub mod Number

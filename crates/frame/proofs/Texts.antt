@@ -55,7 +55,7 @@ module _ (a b c : ℕ) (t : List ℕ) (three : length t ≡ 3) where
       last false = refl
 
 -- alike is equal
-alike-equal : (s t : List ℕ) → alike s t ≡ true → s ≡ t
+pub alike-equal : (s t : List ℕ) → alike s t ≡ true → s ≡ t
 unfolding alike
 alike-equal [] [] e = refl
 alike-equal (a ∷ s) (b ∷ t) e =
@@ -70,7 +70,7 @@ alike-equal (a ∷ s) [] e = let z : _≡_ {A = ℕ} 0 1 = cc in absurd (omega a
 pub as-one : (ts : List (List ℕ)) (k t : List ℕ) → listed ts t ≡ true → alike k t ≡ true → listed ts k ≡ true
 as-one ts k t m e = ap (listed ts) (alike-equal k t e) ∙ m
 
-alike-self : (s : List ℕ) → alike s s ≡ true
+pub alike-self : (s : List ℕ) → alike s s ≡ true
 unfolding alike
 alike-self [] = refl
 alike-self (a ∷ s) = rw (eq-eqb a a refl) (alike-self s)

@@ -6,3 +6,4 @@ pub mod Steps
 pub mod Systems
 pub mod Answered
 pub mod Worked
+pub mod Number

@@ -6,3 +6,5 @@ pub mod Worked
 pub mod OneByte
 pub mod Never
 pub mod Numbered
+pub mod Number
+pub mod Nines

@@ -7,3 +7,4 @@ pub mod Digits
 pub mod Parts
 pub mod Fixed
 pub mod Texts
+pub mod Faults

@@ -26,7 +26,7 @@ use Rattle.log.proofs.OneStep.{at-end, good-place}
 use Rattle.log.proofs.Goes.{going, going-next, goOn, go-none, go-end, go-more}
 
 -- totals on top of what was counted before
-abbrev onTop : Going → List Said → ℕ → Going
+abbrev pub onTop : Going → List Said → ℕ → Going
 onTop w ss next =
     record {
       counts = record {
@@ -123,7 +123,7 @@ unfolding rest
 behind-nil zero = refl
 behind-nil (suc n) = behind-nil n
 
-abbrev place : List ℕ → ℕ → ℕ → ℕ
+abbrev pub place : List ℕ → ℕ → ℕ → ℕ
 place log p n = length log - length (behind n (drop p log))
 
 pub upto : (m n : ℕ) → (m < n) ⊎ (n ≤ m)
@@ -167,7 +167,7 @@ module _ (log : List ℕ) (short : length log ≤ longest) where
       ∙ ap (λ (ls : List (List ℕ)). onTop w (saidAll (take (suc n) ls)) (place log q n)) (sym (lines-here log p h))
       ∙ ap (λ (l : List ℕ). onTop w (said log p (suc n)) (length log - length (behind n l))) (drop-next log p h')
 
-  on-top : (n : ℕ) (w : Going) → isPlace log (w .counts .next) ≡ true
+  pub on-top : (n : ℕ) (w : Going) → isPlace log (w .counts .next) ≡ true
       → goOn log n w ≡ onTop w (said log (w .counts .next) n) (place log (w .counts .next) n)
   on-top zero w e =
       go-none log zero w refl ∙ onTop-none w (length log - length (drop (w .counts .next) log)) (here-place (w .counts .next) (place-within log (w .counts .next) e))

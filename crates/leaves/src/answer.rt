@@ -1,9 +1,14 @@
-// Each reader's whole answer, in words and numbers: what it read, and the next place.
+// Each reader's whole answer, in words and numbers: what it read, a letter by its number, and the next place.
+use crate::print::ABSENT;
+use crate::print::IS;
+use crate::print::NEXT;
+use crate::print::NO;
+use crate::print::REFUSED;
 use crate::print::bits;
-use crate::print::letter;
+use crate::print::end;
 use crate::print::number;
-use crate::print::say;
 use crate::print::signed;
+use crate::print::small;
 use decimal::LongAt;
 use decimal::ShortAt;
 use decimal::ShortDecimal;
@@ -18,33 +23,20 @@ use frame::Talker;
 use held::Calculated;
 use text::Whole;
 
-fn next(at: usize) {
-    number(b" next ", at as u64);
-}
-
-fn absent(at: usize) {
-    say(b" absent");
-    next(at);
-}
-
-fn refused(n: u32) {
-    number(b" refused ", n as u64);
-}
-
 fn utf8(text: &[u8]) {
     if utf8::is_utf8(text) {
-        say(b" yes");
+        end(IS, 1);
     } else {
-        say(b" no");
+        end(NO, 0);
     }
 }
 
 fn whole(r: Whole) {
     match r {
-        Whole::No => say(b" no"),
+        Whole::No => end(NO, 0),
         Whole::Is(v, p) => {
-            number(b" ", v as u64);
-            next(p);
+            small(v);
+            end(NEXT, p as u64);
         }
     }
 }
@@ -52,122 +44,130 @@ fn whole(r: Whole) {
 fn short_decimal(d: ShortDecimal) {
     let whole = d.whole;
     signed(whole as i64);
-    number(b" ", d.decimals as u64);
+    small(d.decimals);
     bits(decimal::bits_f32(d.value) as u64, 8);
 }
 
-fn short(text: &[u8], at: usize) {
-    match decimal::short_decimal(text, at) {
-        ShortAt::Absent(p) => absent(p),
+fn short(r: ShortAt) {
+    match r {
+        ShortAt::Absent(p) => end(ABSENT, p as u64),
         ShortAt::Is(d, p) => {
             short_decimal(d);
-            next(p);
+            end(NEXT, p as u64);
         }
-        ShortAt::Number => refused(9),
+        ShortAt::Number => end(REFUSED, 9),
     }
 }
 
-fn long(text: &[u8], at: usize) {
-    match decimal::long_decimal(text, at) {
-        LongAt::Absent(p) => absent(p),
+fn long(r: LongAt) {
+    match r {
+        LongAt::Absent(p) => end(ABSENT, p as u64),
         LongAt::Is(d, p) => {
-            number(b" ", d.size);
-            number(b" ", d.decimals as u64);
-            number(b" ", d.billionths);
+            number(d.size);
+            small(d.decimals);
+            number(d.billionths);
             bits(decimal::bits_f64(d.value), 16);
-            next(p);
+            end(NEXT, p as u64);
         }
-        LongAt::Number => refused(9),
+        LongAt::Number => end(REFUSED, 9),
     }
 }
 
-fn time(text: &[u8], at: usize) {
-    match fields::opt_hms(text, at) {
-        TimeAt::Absent(p) => absent(p),
+fn time(r: TimeAt) {
+    match r {
+        TimeAt::Absent(p) => end(ABSENT, p as u64),
         TimeAt::Is(t, p) => {
-            number(b" ", t.hour as u64);
-            number(b":", t.minute as u64);
-            number(b":", t.second as u64);
-            number(b" ", t.nanosecond as u64);
-            next(p);
+            small(t.hour);
+            small(t.minute);
+            small(t.second);
+            small(t.nanosecond);
+            end(NEXT, p as u64);
         }
-        TimeAt::Number => refused(9),
-        TimeAt::BadTime => refused(11),
+        TimeAt::Number => end(REFUSED, 9),
+        TimeAt::BadTime => end(REFUSED, 11),
     }
 }
 
-fn date(text: &[u8], at: usize) {
-    match fields::opt_date(text, at) {
-        DateAt::Absent(p) => absent(p),
+fn date(r: DateAt) {
+    match r {
+        DateAt::Absent(p) => end(ABSENT, p as u64),
         DateAt::Is(d, p) => {
-            number(b" ", d.year as u64);
-            number(b"-", d.month as u64);
-            number(b"-", d.day as u64);
-            next(p);
+            small(d.year);
+            small(d.month);
+            small(d.day);
+            end(NEXT, p as u64);
         }
     }
 }
 
 fn coordinate(c: Coordinate) {
     signed(c.count);
-    letter(c.letter);
+    number(c.letter as u64);
     bits(decimal::bits_f64(c.degrees), 16);
 }
 
-fn position(text: &[u8], at: usize) {
-    match fields::parse_lat_lon(text, at) {
-        PlaceAt::No => say(b" no"),
-        PlaceAt::Absent(p) => absent(p),
+fn position(r: PlaceAt) {
+    match r {
+        PlaceAt::No => end(NO, 0),
+        PlaceAt::Absent(p) => end(ABSENT, p as u64),
         PlaceAt::Is(b, p) => {
             coordinate(b.lat);
             coordinate(b.lon);
-            next(p);
+            end(NEXT, p as u64);
         }
-        PlaceAt::Number => refused(9),
+        PlaceAt::Number => end(REFUSED, 9),
     }
 }
 
-fn variation(text: &[u8], at: usize) {
-    match fields::parse_magnetic_variation(text, at) {
-        VariationAt::No => say(b" no"),
-        VariationAt::Absent(p) => absent(p),
+fn variation(r: VariationAt) {
+    match r {
+        VariationAt::No => end(NO, 0),
+        VariationAt::Absent(p) => end(ABSENT, p as u64),
         VariationAt::Is(d, p) => {
             short_decimal(d);
-            next(p);
+            end(NEXT, p as u64);
         }
-        VariationAt::Number => refused(9),
+        VariationAt::Number => end(REFUSED, 9),
     }
 }
 
-fn checksum(line: &[u8]) {
-    match held::calculate(line) {
-        Calculated::Is(n) => bits(n as u64, 2),
-        Calculated::Refused(why) => refused(why.number()),
+fn checksum(r: Calculated) {
+    match r {
+        Calculated::Is(n) => end(IS, n as u64),
+        Calculated::Refused(why) => end(REFUSED, why.number() as u64),
     }
 }
 
-// The checksum of a GP GSA sentence whose data are the line's from one place to another.
-fn range(line: &[u8], from: usize, to: usize) {
-    let x = Sentence::new(Talker(b'G', b'P'), Kind(b'G', b'S', b'A'), 0, from, to);
-    bits(held::line_checksum(line, x) as u64, 2);
+// The checksum of a GP GSA sentence whose data are the line's from its eighth byte up to a place.
+fn range(line: &[u8], to: usize) {
+    let x = Sentence::new(Talker(b'G', b'P'), Kind(b'G', b'S', b'A'), 0, 7, to);
+    end(IS, held::line_checksum(line, x) as u64);
+}
+
+// What the readers of fields and of whole lines answer.
+fn fields_of(reader: u8, at: usize, text: &[u8]) {
+    match reader {
+        b't' => time(fields::opt_hms(text, at)),
+        b'd' => date(fields::opt_date(text, at)),
+        b'p' => position(fields::parse_lat_lon(text, at)),
+        b'v' => variation(fields::parse_magnetic_variation(text, at)),
+        b'c' => checksum(held::calculate(text)),
+        b'r' => range(text, at),
+        _ => {}
+    }
 }
 
 // What the reader whose name begins with a byte answers.
-pub(crate) fn answer(reader: u8, at: usize, n: u32, text: &[u8]) {
+pub(crate) fn answer(reader: u8, n: u32, text: &[u8]) {
+    let at = n as usize;
     match reader {
         b'u' => utf8(text),
         b'2' => whole(text::two(text, at)),
         b'3' => whole(text::three(text, at)),
-        b'n' => whole(text::number(text, at, n)),
-        b's' => short(text, at),
-        b'l' => long(text, at),
-        b'1' => number(b" ", decimal::pow10(n)),
-        b't' => time(text, at),
-        b'd' => date(text, at),
-        b'p' => position(text, at),
-        b'v' => variation(text, at),
-        b'c' => checksum(text),
-        b'r' => range(text, at, n as usize),
-        _ => say(b" no reader"),
+        b'n' => whole(text::number(text, 0, n)),
+        b's' => short(decimal::short_decimal(text, at)),
+        b'l' => long(decimal::long_decimal(text, at)),
+        b'1' => end(IS, decimal::pow10(n)),
+        _ => fields_of(reader, at, text),
     }
 }

@@ -1,8 +1,8 @@
 -- `short_decimal` is safe: a signed number of 32 bits is one of 64. Assumes nothing.
 use mir.Syntax.{w32}
 use mir.Val.{SFits}
-use Rattle.leaves.proofs.Signs.{wider}
 use borrow.Author.Needs.{needs}
+use Rattle.leaves.proofs.Signs.{wider}
 use Rattle.leaves.proofs.answer.short_decimal.Statement.{statement}
 use Rattle.leaves.proofs.answer.short_decimal.Tie as tie
 
@@ -15,14 +15,8 @@ cast-signed c =
 signed-requires : tie.Need-signed-requires
 signed-requires c κs = search needs
 
-slice-aggregate-number : tie.Need-slice-aggregate-number
-slice-aggregate-number c = search needs
-
-cast-number : tie.Need-cast-number
-cast-number c = search needs
-
-number-requires : tie.Need-number-requires
-number-requires c κs = search needs
+small-requires : tie.Need-small-requires
+small-requires c κs = search needs
 
 bits-f32-requires : tie.Need-bits-f32-requires
 bits-f32-requires c κs = search needs
@@ -42,9 +36,7 @@ short-decimal-spec =
     (tie.spec
     cast-signed
     signed-requires
-    slice-aggregate-number
-    cast-number
-    number-requires
+    small-requires
     bits-f32-requires
     cast-bits
     bits-requires

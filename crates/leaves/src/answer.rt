@@ -23,20 +23,12 @@ use frame::Talker;
 use held::Calculated;
 use text::Whole;
 
-fn utf8(text: &[u8]) {
-    if utf8::is_utf8(text) {
-        end(IS, 1);
-    } else {
-        end(NO, 0);
-    }
-}
-
 fn whole(r: Whole) {
     match r {
         Whole::No => end(NO, 0),
         Whole::Is(v, p) => {
             small(v);
-            end(NEXT, p as u64);
+            end(NEXT, p);
         }
     }
 }
@@ -48,54 +40,54 @@ fn short_decimal(d: ShortDecimal) {
     bits(decimal::bits_f32(d.value) as u64, 8);
 }
 
-fn short(r: ShortAt) {
-    match r {
-        ShortAt::Absent(p) => end(ABSENT, p as u64),
+fn short(text: &[u8], at: usize) {
+    match decimal::short_decimal(text, at) {
+        ShortAt::Absent(p) => end(ABSENT, p),
         ShortAt::Is(d, p) => {
             short_decimal(d);
-            end(NEXT, p as u64);
+            end(NEXT, p);
         }
         ShortAt::Number => end(REFUSED, 9),
     }
 }
 
-fn long(r: LongAt) {
-    match r {
-        LongAt::Absent(p) => end(ABSENT, p as u64),
+fn long(text: &[u8], at: usize) {
+    match decimal::long_decimal(text, at) {
+        LongAt::Absent(p) => end(ABSENT, p),
         LongAt::Is(d, p) => {
             number(d.size);
             small(d.decimals);
             number(d.billionths);
             bits(decimal::bits_f64(d.value), 16);
-            end(NEXT, p as u64);
+            end(NEXT, p);
         }
         LongAt::Number => end(REFUSED, 9),
     }
 }
 
-fn time(r: TimeAt) {
-    match r {
-        TimeAt::Absent(p) => end(ABSENT, p as u64),
+fn time(text: &[u8], at: usize) {
+    match fields::opt_hms(text, at) {
+        TimeAt::Absent(p) => end(ABSENT, p),
         TimeAt::Is(t, p) => {
             small(t.hour);
             small(t.minute);
             small(t.second);
             small(t.nanosecond);
-            end(NEXT, p as u64);
+            end(NEXT, p);
         }
         TimeAt::Number => end(REFUSED, 9),
         TimeAt::BadTime => end(REFUSED, 11),
     }
 }
 
-fn date(r: DateAt) {
-    match r {
-        DateAt::Absent(p) => end(ABSENT, p as u64),
+fn date(text: &[u8], at: usize) {
+    match fields::opt_date(text, at) {
+        DateAt::Absent(p) => end(ABSENT, p),
         DateAt::Is(d, p) => {
             small(d.year);
             small(d.month);
             small(d.day);
-            end(NEXT, p as u64);
+            end(NEXT, p);
         }
     }
 }
@@ -106,52 +98,52 @@ fn coordinate(c: Coordinate) {
     bits(decimal::bits_f64(c.degrees), 16);
 }
 
-fn position(r: PlaceAt) {
-    match r {
+fn position(text: &[u8], at: usize) {
+    match fields::parse_lat_lon(text, at) {
         PlaceAt::No => end(NO, 0),
-        PlaceAt::Absent(p) => end(ABSENT, p as u64),
+        PlaceAt::Absent(p) => end(ABSENT, p),
         PlaceAt::Is(b, p) => {
             coordinate(b.lat);
             coordinate(b.lon);
-            end(NEXT, p as u64);
+            end(NEXT, p);
         }
         PlaceAt::Number => end(REFUSED, 9),
     }
 }
 
-fn variation(r: VariationAt) {
-    match r {
+fn variation(text: &[u8], at: usize) {
+    match fields::parse_magnetic_variation(text, at) {
         VariationAt::No => end(NO, 0),
-        VariationAt::Absent(p) => end(ABSENT, p as u64),
+        VariationAt::Absent(p) => end(ABSENT, p),
         VariationAt::Is(d, p) => {
             short_decimal(d);
-            end(NEXT, p as u64);
+            end(NEXT, p);
         }
         VariationAt::Number => end(REFUSED, 9),
     }
 }
 
-fn checksum(r: Calculated) {
-    match r {
-        Calculated::Is(n) => end(IS, n as u64),
-        Calculated::Refused(why) => end(REFUSED, why.number() as u64),
+fn checksum(line: &[u8]) {
+    match held::calculate(line) {
+        Calculated::Is(n) => end(IS, n as usize),
+        Calculated::Refused(why) => end(REFUSED, why.number() as usize),
     }
 }
 
 // The checksum of a GP GSA sentence whose data are the line's from its eighth byte up to a place.
 fn range(line: &[u8], to: usize) {
     let x = Sentence::new(Talker(b'G', b'P'), Kind(b'G', b'S', b'A'), 0, 7, to);
-    end(IS, held::line_checksum(line, x) as u64);
+    end(IS, held::line_checksum(line, x) as usize);
 }
 
 // What the readers of fields and of whole lines answer.
 fn fields_of(reader: u8, at: usize, text: &[u8]) {
     match reader {
-        b't' => time(fields::opt_hms(text, at)),
-        b'd' => date(fields::opt_date(text, at)),
-        b'p' => position(fields::parse_lat_lon(text, at)),
-        b'v' => variation(fields::parse_magnetic_variation(text, at)),
-        b'c' => checksum(held::calculate(text)),
+        b't' => time(text, at),
+        b'd' => date(text, at),
+        b'p' => position(text, at),
+        b'v' => variation(text, at),
+        b'c' => checksum(text),
         b'r' => range(text, at),
         _ => {}
     }
@@ -161,13 +153,13 @@ fn fields_of(reader: u8, at: usize, text: &[u8]) {
 pub(crate) fn answer(reader: u8, n: u32, text: &[u8]) {
     let at = n as usize;
     match reader {
-        b'u' => utf8(text),
+        b'u' => end(IS, utf8::is_utf8(text) as usize),
         b'2' => whole(text::two(text, at)),
         b'3' => whole(text::three(text, at)),
         b'n' => whole(text::number(text, 0, n)),
-        b's' => short(decimal::short_decimal(text, at)),
-        b'l' => long(decimal::long_decimal(text, at)),
-        b'1' => end(IS, decimal::pow10(n)),
+        b's' => short(text, at),
+        b'l' => long(text, at),
+        b'1' => end(IS, decimal::pow10(n) as usize),
         _ => fields_of(reader, at, text),
     }
 }

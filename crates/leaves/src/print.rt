@@ -42,7 +42,7 @@ pub(crate) fn signed(z: i64) {
     }
 }
 
-pub(crate) fn end(word: u8, n: u64) {
+pub(crate) fn end(word: u8, n: usize) {
     match word {
         NO => {
             say(b"no");
@@ -53,5 +53,5 @@ pub(crate) fn end(word: u8, n: u64) {
         REFUSED => say(b"refused "),
         _ => {}
     }
-    io::print_decimal(STDOUT_FILENO, n);
+    io::print_decimal(STDOUT_FILENO, n as u64);
 }

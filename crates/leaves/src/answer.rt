@@ -149,7 +149,8 @@ fn fields_of(reader: u8, at: usize, text: &[u8]) {
     }
 }
 
-// What the reader whose name begins with a byte answers.
+// What the reader whose name begins with a byte answers. Its number is the place to read at; of `number` the most that it may read, of
+// `10` the power, of `range` where the data end.
 pub(crate) fn answer(reader: u8, n: u32, text: &[u8]) {
     let at = n as usize;
     match reader {

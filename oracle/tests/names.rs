@@ -148,39 +148,53 @@ fn what_promises_names_is_defined_where_it_says() {
 }
 
 #[test]
-fn what_reading_names_is_defined() {
-    let sources: Vec<String> = ["crates", "oracle/tests"]
+fn what_reading_names_is_defined_where_it_says() {
+    // functions, tests and edits, which are named without their files
+    let elsewhere: Vec<String> = ["crates", "oracle/tests"]
         .into_iter()
         .flat_map(|folder| files(&repository().join(folder)))
         .map(
             |path| match path.extension().and_then(|ending| ending.to_str()) {
-                Some("antt" | "rt" | "rs") => fs::read_to_string(&path).expect("a source"),
-                // an edit is named by its file
+                Some("rt" | "rs") => fs::read_to_string(&path).expect("a source"),
                 Some("edit") => format!("{}:", path.file_stem().unwrap_or_default().display()),
                 _ => String::new(),
             },
         )
         .collect();
-    let all: BTreeSet<&str> = sources.iter().flat_map(|source| defined(source)).collect();
+    let elsewhere: BTreeSet<&str> = elsewhere
+        .iter()
+        .flat_map(|source| defined(source))
+        .collect();
     let document = read("docs/READING.md");
     let (mut wrong, mut found) = (vec![], 0);
     for (at, cells) in rows(&document) {
+        // the files of definitions, as `frame/Frame`, and of theorems, as `frame/proofs/Xor.antt`
+        let mut beside = String::new();
+        for file in cells.iter().flat_map(|cell| quoted(cell)) {
+            let path = match file.split_once('/') {
+                Some((of, name)) if name.starts_with("proofs/") => format!("crates/{of}/{name}"),
+                Some((of, name))
+                    if name.chars().all(char::is_alphanumeric)
+                        && name.starts_with(char::is_uppercase) =>
+                {
+                    format!("crates/{of}/specs/{name}.antt")
+                }
+                _ => continue,
+            };
+            match fs::read_to_string(repository().join(&path)) {
+                Ok(source) => beside += &source,
+                Err(_) => wrong.push(format!("docs/READING.md:{at}: there is no {path}")),
+            }
+        }
+        let beside = defined(&beside);
         for name in names(cells.get(1).copied().unwrap_or_default()) {
             found += 1;
             let name = name.rsplit("::").next().unwrap_or(name);
-            if !all.contains(name) {
-                wrong.push(format!("docs/READING.md:{at}: `{name}` is defined nowhere"));
-            }
-        }
-        // files of definitions, as `frame/Frame`
-        for file in cells.iter().flat_map(|cell| quoted(cell)) {
-            let Some((of, name)) = file.split_once('/') else {
-                continue;
-            };
-            let is_definitions = name.starts_with(char::is_uppercase) && !name.contains('.');
-            let path = format!("crates/{of}/specs/{name}.antt");
-            if is_definitions && !repository().join(&path).is_file() {
-                wrong.push(format!("docs/READING.md:{at}: there is no {path}"));
+            let is_crate = repository().join("crates").join(name).is_dir();
+            if !beside.contains(name) && !elsewhere.contains(name) && !is_crate {
+                wrong.push(format!(
+                    "docs/READING.md:{at}: `{name}` is defined in no file beside it"
+                ));
             }
         }
     }

@@ -1,30 +1,51 @@
-// Runs the leaf readers at their limits and says of each case whether the answer is the one expected.
-// What is expected is worked out from the scope's words, and the floats from the exact quotients.
-mod dates;
-mod decimals;
-mod numbers;
-mod places;
-mod sums;
-mod times;
-mod utf8s;
+// Runs the leaf readers at their limits, a case for each line of standard input: `READER NUMBER|TEXT`. A reader is known by its first
+// byte; the number is the place to read at, or what else it takes; the text is any bytes. A line with no number there says why the cases
+// below it are there. Each line is written again with the reader's whole answer behind it. What `stdout` expects was worked out from
+// the scope's words, and the floats from the exact quotients.
+mod answer;
+mod print;
 
-// Says of a case whether it came out as expected.
-pub(crate) fn told(ok: bool, case: &[u8]) {
-    if ok {
-        io::write_all(1, b"ok ");
-    } else {
-        io::write_all(1, b"WRONG ");
+use libc::STDIN_FILENO;
+use print::say;
+use text::Next;
+use text::Whole;
+
+fn row(line: &[u8]) {
+    say(line);
+    let Next::At(p) = text::until(line, 0, b' ') else {
+        return;
+    };
+    if line.len() <= p {
+        return;
     }
-    io::write_all(1, case);
-    io::write_all(1, b"\n");
+    let Whole::Is(n, end) = text::number(line, p + 1, 4294967295) else {
+        return;
+    };
+    if line.len() <= end {
+        return;
+    }
+    say(b" = ");
+    let from = end + 1;
+    answer::answer(line[0], n, &line[from..]);
+}
+
+fn rows(table: &[u8]) {
+    let mut from = 0;
+    let mut i = 0;
+    while i < table.len() {
+        if table[i] != b'\n' {
+            i += 1;
+            continue;
+        }
+        row(&table[from..i]);
+        say(b"\n");
+        i += 1;
+        from = i;
+    }
 }
 
 fn main() {
-    utf8s::run();
-    numbers::run();
-    decimals::run();
-    times::run();
-    dates::run();
-    places::run();
-    sums::run();
+    let mut space = io::large_buffer();
+    let n = io::read_full(STDIN_FILENO, &mut space);
+    rows(&space[..n]);
 }

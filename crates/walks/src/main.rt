@@ -1,195 +1,166 @@
-// Runs 01's worked log as `nmea_log` does not: in parts, with a gatherer carried on, from bad places, step by step. Says of each case
-// whether the answer is the one expected, which was worked out from 01's words.
+// Runs 01's worked log as `nmea_log` does not: in parts, with a gatherer carried on, from bad places, step by step. Each row of a table
+// is a case, and is written with the whole of what came of it; what `stdout` expects was worked out from 01's words.
 use frame::Refusal;
+use gather::row::Group;
 use gather::table;
 use gather::table::Gatherer;
 use gather::table::Handed;
+use libc::STDOUT_FILENO;
 use log::step;
 use log::step::Stepped;
 use log::walk;
 use log::walk::Counts;
 use log::walk::Walked;
 
-// The places of the worked log: after its second line, after its third, and its length.
-const SECOND: usize = 138;
+// What a case runs.
+const WALK: usize = 0;
 
-const THIRD: usize = 198;
+const STEP: usize = 1;
 
-const END: usize = 217;
+// A case: how many lines are taken first, which leave the gatherer; the place; the allowance of a walk.
+const CASES: [[usize; 4]; 14] = [
+    // Allowances: above the lines left, none, two.
+    [WALK, 0, 0, 9],
+    [WALK, 0, 0, 0],
+    [WALK, 0, 0, 2],
+    // Behind the second line, with the gatherer carried on and with a fresh one.
+    [WALK, 2, 138, 9],
+    [WALK, 0, 138, 9],
+    // Places: within a line, past the end, the length.
+    [WALK, 0, 3, 9],
+    [WALK, 0, 218, 9],
+    [WALK, 0, 217, 9],
+    // The end; the third line, which makes a group, and the same with no line before it.
+    [STEP, 0, 217, 0],
+    [STEP, 2, 138, 0],
+    [STEP, 0, 138, 0],
+    // The blank line, the line that is refused, a place within a line.
+    [STEP, 0, 198, 0],
+    [STEP, 0, 199, 0],
+    [STEP, 0, 3, 0],
+];
 
-fn told(ok: bool, case: &[u8]) {
-    if ok {
-        io::write_all(1, b"ok ");
-    } else {
-        io::write_all(1, b"WRONG ");
-    }
-    io::write_all(1, case);
-    io::write_all(1, b"\n");
+fn say(word: &[u8]) {
+    io::write_all(STDOUT_FILENO, word);
 }
 
-fn same(a: Counts, b: Counts) -> bool {
-    if a.lines != b.lines {
-        return false;
-    }
-    if a.blank != b.blank {
-        return false;
-    }
-    if a.accepted != b.accepted {
-        return false;
-    }
-    if a.refused != b.refused {
-        return false;
-    }
-    if a.groups != b.groups {
-        return false;
-    }
-    a.next == b.next
+fn number(n: usize) {
+    say(b" ");
+    io::print_decimal(STDOUT_FILENO, n as u64);
 }
 
-fn went(walked: Walked, expected: Counts) -> bool {
+// The refusal's number, and the place that it carries.
+fn refused(why: Refusal) {
+    say(b" refused");
+    number(why.number() as usize);
+    if let Refusal::BadPlace(p) = why {
+        number(p);
+    }
+}
+
+// Lines, of these blank, accepted, refused; groups, and the next place.
+fn counts(c: Counts) {
+    number(c.lines);
+    number(c.blank);
+    number(c.accepted);
+    number(c.refused);
+    number(c.groups);
+    number(c.next);
+}
+
+// The gatherer that the first lines leave.
+fn after(log: &[u8], lines: usize) -> Gatherer {
+    let w = walk::walk(log, 0, lines, table::fresh());
+    w.gatherer
+}
+
+fn tell_walked(walked: Walked) {
     match walked {
-        Walked::Refused(_) => false,
-        Walked::Went(c) => same(c, expected),
+        Walked::Refused(why) => refused(why),
+        Walked::Went(c) => counts(c),
     }
 }
 
-// A place is refused, with its place.
-fn bad_place(walked: Walked, place: usize) -> bool {
-    match walked {
-        Walked::Refused(why) => match why {
-            Refusal::BadPlace(p) => p == place,
-            _ => false,
-        },
-        Walked::Went(_) => false,
-    }
+fn walked(log: &[u8], lines: usize, place: usize, allowance: usize) {
+    let w = walk::walk(log, place, allowance, after(log, lines));
+    let walked = w.walked;
+    tell_walked(walked);
 }
 
-fn walked(log: &[u8], place: usize, allowance: usize, g: Gatherer) -> Walked {
-    let w = walk::walk(log, place, allowance, g);
-    w.walked
-}
-
-fn counts(
-    lines: usize,
-    blank: usize,
-    accepted: usize,
-    refused: usize,
-    groups: usize,
-    next: usize,
-) -> Counts {
-    Counts {
-        lines,
-        blank,
-        accepted,
-        refused,
-        groups,
-        next,
-    }
-}
-
-fn allowances(log: &[u8]) {
-    let g = table::fresh();
-    let w = walked(log, 0, 9, g);
-    told(
-        went(w, counts(5, 1, 3, 1, 1, END)),
-        b"an allowance above the lines left",
-    );
-    let g = table::fresh();
-    let w = walked(log, 0, 0, g);
-    told(went(w, counts(0, 0, 0, 0, 0, 0)), b"an allowance of none");
-    let g = table::fresh();
-    let w = walked(log, 0, 2, g);
-    told(
-        went(w, counts(2, 0, 2, 0, 0, SECOND)),
-        b"an allowance of two",
-    );
-}
-
-// The rest of the log, behind its second line.
-fn carried(log: &[u8]) {
-    let g = table::fresh();
-    let w = walk::walk(log, 0, 2, g);
-    let g = w.gatherer;
-    let w = walked(log, SECOND, 9, g);
-    told(
-        went(w, counts(3, 1, 1, 1, 1, END)),
-        b"a gatherer carried on",
-    );
-    let g = table::fresh();
-    let w = walked(log, SECOND, 9, g);
-    told(
-        went(w, counts(3, 1, 1, 1, 0, END)),
-        b"a gatherer not carried on",
-    );
-}
-
-fn places(log: &[u8]) {
-    let g = table::fresh();
-    let w = walked(log, 3, 9, g);
-    told(bad_place(w, 3), b"a place within a line");
-    let g = table::fresh();
-    let w = walked(log, END + 1, 9, g);
-    told(bad_place(w, END + 1), b"a place past the end");
-    let g = table::fresh();
-    let w = walked(log, END, 9, g);
-    told(
-        went(w, counts(0, 0, 0, 0, 0, END)),
-        b"the length as a place",
-    );
-}
-
-fn is_end(stepped: Stepped, place: usize) -> bool {
+// A line and the next place, or the end and its place.
+fn tell_stepped(stepped: Stepped) {
     match stepped {
-        Stepped::Refused(_) => false,
-        Stepped::End(p) => p == place,
-        Stepped::Line(_, _) => false,
+        Stepped::Refused(why) => refused(why),
+        Stepped::End(p) => {
+            say(b" end");
+            number(p);
+        }
+        Stepped::Line(_, p) => {
+            say(b" line");
+            number(p);
+        }
     }
 }
 
-fn is_line(stepped: Stepped, next: usize) -> bool {
-    match stepped {
-        Stepped::Refused(_) => false,
-        Stepped::End(_) => false,
-        Stepped::Line(_, p) => p == next,
-    }
+// n, the count in view, how many entries, and of these the first and the eleventh.
+fn tell_group(g: Group) {
+    say(b" group");
+    number(g.n as usize);
+    number(g.view as usize);
+    number(g.count);
+    let first = g.sats[0];
+    number(first.id as usize);
+    let eleventh = g.sats[10];
+    number(eleventh.id as usize);
 }
 
-fn is_some(handed: Handed) -> bool {
-    match handed {
-        Handed::Nothing => false,
-        Handed::Of(_) => true,
-    }
-}
-
-fn steps(log: &[u8]) {
-    let g = table::fresh();
-    let s = step::step(log, END, g);
+fn stepped(log: &[u8], lines: usize, place: usize) {
+    let s = step::step(log, place, after(log, lines));
     let stepped = s.stepped;
-    told(is_end(stepped, END), b"the end, and its place");
-    let g = table::fresh();
-    let w = walk::walk(log, 0, 2, g);
-    let g = w.gatherer;
-    let s = step::step(log, SECOND, g);
-    let stepped = s.stepped;
-    told(is_line(stepped, THIRD), b"a step takes one line");
+    tell_stepped(stepped);
     let handed = s.handed;
-    told(is_some(handed), b"the third line hands out a group");
-    let group = s.group;
-    told(group.n == 3, b"of three lines");
-    told(group.view == 11, b"with eleven in view");
-    told(group.count == 11, b"and eleven entries");
-    let first = group.sats[0];
-    told(first.id == 3, b"of which the first is satellite 3");
-    let last = group.sats[10];
-    told(last.id == 27, b"and the last is satellite 27");
+    if let Handed::Of(_) = handed {
+        tell_group(s.group);
+    }
+}
+
+fn tell_kind(kind: usize) {
+    if kind == WALK {
+        say(b"walk");
+    } else {
+        say(b"step");
+    }
+}
+
+fn case(log: &[u8], row: [usize; 4]) {
+    let kind = row[0];
+    let lines = row[1];
+    let place = row[2];
+    let allowance = row[3];
+    tell_kind(kind);
+    number(lines);
+    number(place);
+    number(allowance);
+    say(b" =");
+    if kind == WALK {
+        walked(log, lines, place, allowance);
+    } else {
+        stepped(log, lines, place);
+    }
+}
+
+fn cases(log: &[u8]) {
+    let mut i: usize = 0;
+    while i < 14 {
+        case(log, CASES[i]);
+        say(b"\n");
+        i += 1;
+    }
 }
 
 // 01's worked log.
 fn main() {
-    let log =
-        b"$GPGSV,3,1,11,03,03,111,00,04,15,270,00,06,01,010,00,13,06,292,00*74\n$GPGSV,3,2,11,14,25,170,00,16,57,208,39,18,67,296,40,19,40,246,00*74\n$GPGSV,3,3,11,22,42,067,42,24,14,311,43,27,05,244,00,,,,*4D\n\n$GPGSA,A,1,,,,*33\n";
-    allowances(log);
-    carried(log);
-    places(log);
-    steps(log);
+    cases(
+        b"$GPGSV,3,1,11,03,03,111,00,04,15,270,00,06,01,010,00,13,06,292,00*74\n$GPGSV,3,2,11,14,25,170,00,16,57,208,39,18,67,296,40,19,40,246,00*74\n$GPGSV,3,3,11,22,42,067,42,24,14,311,43,27,05,244,00,,,,*4D\n\n$GPGSA,A,1,,,,*33\n",
+    );
 }

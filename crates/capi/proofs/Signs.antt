@@ -12,7 +12,8 @@ use lib.IntN.{ℤ, pos, negsuc, negℤ, natAbs, _+ℤ_, _-ℤ_}
 use lib.Signed.{mag, ltZ, nonNeg}
 use mir.Syntax.{w32, w64}
 use mir.Val.{Fits, SFits, toZ, ofZ}
-use mir.Facts.{toZ-ofZ, sfits-widen}
+use mir.Facts.{toZ-ofZ}
+use Rattle.decimal.proofs.Signs.{unsigned, wider}
 use Rattle.capi.specs.Layout.{sign}
 
 gone-two : (n : ℕ) → suc (suc n) - 2 ≡ n
@@ -45,10 +46,6 @@ sign-above : (z : ℤ) → ltZ z (pos 0) ≡ false → 0 ≡ sign z
 sign-above (pos n) h = refl
 sign-above (negsuc n) h = absurd (true≢false h)
 
-keep : (z : ℤ) → mag z < 2 ^ 63 → ltZ z (pos 0) ≡ false → T (nonNeg z) × Fits w64 (natAbs z)
-keep (pos n) l h = (tt, record { fits = omega arith })
-keep (negsuc n) l h = absurd (true≢false h)
-
 module _ (z : ℤ) (F : SFits w64 z) where
   same : toZ w64 (ofZ w64 z) ≡ z
   same = toZ-ofZ F
@@ -60,7 +57,7 @@ module _ (z : ℤ) (F : SFits w64 z) where
   above h = sign-above z (ap (λ (y : ℤ). ltZ y (pos 0)) (sym same) ∙ h)
 
   pub kept-cast : ltZ (toZ w64 (ofZ w64 z)) (pos 0) ≡ false → T (nonNeg (toZ w64 (ofZ w64 z))) × Fits w64 (natAbs (toZ w64 (ofZ w64 z)))
-  kept-cast h = keep (toZ w64 (ofZ w64 z)) (subst (λ (y : ℤ). mag y < 2 ^ 63) (sym same) (F .sfits)) h
+  kept-cast h = unsigned (toZ w64 (ofZ w64 z)) (subst (λ (y : ℤ). mag y < 2 ^ 63) (sym same) (F .sfits)) h
 
 module _ (z : ℤ) (F : SFits w64 z) (h : ltZ (toZ w64 (ofZ w64 z)) (pos 0) ≡ true) where
   told : ltZ z (pos 0) ≡ true
@@ -113,9 +110,6 @@ module _ (z : ℤ) (F : SFits w64 z) (h : ltZ (toZ w64 (ofZ w64 z)) (pos 0) ≡ 
   unfolding n
   size-is = ap (λ (u : ℤ). natAbs u + 1) flip-is ∙ size z told
 
--- a signed number of 32 bits is one of 64
-pub wider : (z : ℤ) → SFits w32 z → SFits w64 (toZ w32 (ofZ w32 z))
-wider z f = subst (λ (u : ℤ). SFits w64 u) (sym (toZ-ofZ f)) (sfits-widen {w = w32} {w′ = w64} tt f)
-
+-- a signed number of 32 bits, read in 64
 pub wider-is : (z : ℤ) → SFits w32 z → toZ w64 (ofZ w64 (toZ w32 (ofZ w32 z))) ≡ z
 wider-is z f = toZ-ofZ (wider z f) ∙ toZ-ofZ f

@@ -9,3 +9,4 @@ pub mod Exactly
 pub mod NotNan
 pub mod Nearest
 pub mod Number
+pub mod Signs

@@ -3,14 +3,15 @@ use Prim.Native.Nat.{ℕ, suc, _+_, _-_, _^_, _<_}
 use native.Mathlib.Nat.{not-suc-le-zero}
 use native.Mathlib.Omega.{arith}
 use mathlib.Core.Path.{_≡_, sym, ap, _∙_, subst}
-use mathlib.Core.Bool.{true, false, true≢false}
+use mathlib.Core.Bool.{true, false}
 use borrow.Author.Tests.{ltb-true, le-ltb}
 use lib.Dec.{T}
 use lib.IntN.{ℤ, pos, negsuc, natAbs, _-ℤ_}
 use lib.Signed.{mag, ltZ, nonNeg}
-use mir.Syntax.{w32, w64}
+use mir.Syntax.{w64}
 use mir.Val.{Fits, SFits, toZ, ofZ}
-use mir.Facts.{toZ-ofZ, sfits-widen}
+use mir.Facts.{toZ-ofZ}
+use Rattle.decimal.proofs.Signs.{unsigned}
 
 one-less : (n : ℕ) → suc n - 1 ≡ n
 one-less n = omega arith
@@ -19,10 +20,6 @@ one-less n = omega arith
 flip : (z : ℤ) → ltZ z (pos 0) ≡ true → negsuc 0 -ℤ z ≡ pos (mag z)
 flip (pos n) h = absurd (not-suc-le-zero (ltb-true n 0 h))
 flip (negsuc n) h = simp (le-ltb (suc n) 1 (omega arith)) (ap pos (one-less n))
-
-keep : (z : ℤ) → mag z < 2 ^ 63 → ltZ z (pos 0) ≡ false → T (nonNeg z) × Fits w64 (natAbs z)
-keep (pos n) l h = (tt, record { fits = omega arith })
-keep (negsuc n) l h = absurd (true≢false h)
 
 fit : {n : ℕ} → n < 2 ^ 63 → Fits w64 n
 fit l = record { fits = omega arith }
@@ -39,7 +36,7 @@ module _ (z : ℤ) (F : SFits w64 z) where
   small = subst (λ (u : ℤ). mag u < 2 ^ 63) (sym (toZ-ofZ F)) (F .sfits)
 
   pub above : ltZ y (pos 0) ≡ false → T (nonNeg y) × Fits w64 (natAbs y)
-  above h = keep y small h
+  above h = unsigned y small h
 
   abbrev x : ℤ
   x = negsuc 0 -ℤ y
@@ -56,7 +53,3 @@ module _ (z : ℤ) (F : SFits w64 z) where
 
     pub size-fits : Fits w64 (natAbs (toZ w64 (ofZ w64 x)) + 1)
     size-fits = subst (λ (u : ℤ). Fits w64 (natAbs u + 1)) (sym flip-is) (fit-one-more small)
-
--- a signed number of 32 bits is one of 64
-pub wider : (z : ℤ) → SFits w32 z → SFits w64 (toZ w32 (ofZ w32 z))
-wider z f = subst (λ (u : ℤ). SFits w64 u) (sym (toZ-ofZ f)) (sfits-widen {w = w32} {w′ = w64} tt f)

@@ -5,7 +5,8 @@ use lib.IntN.{natAbs}
 use mir.Syntax.{w32}
 use mir.Val.{SFits}
 use Rattle.capi.specs.Layout.{sign}
-use Rattle.capi.proofs.Signs.{wider, wider-is}
+use Rattle.decimal.proofs.Signs.{wider}
+use Rattle.capi.proofs.Signs.{wider-is}
 use borrow.Author.Needs.{needs}
 use Rattle.capi.proofs.dop_words.Statement.{statement}
 use Rattle.capi.proofs.dop_words.Tie as tie

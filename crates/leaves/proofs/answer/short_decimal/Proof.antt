@@ -2,7 +2,7 @@
 use mir.Syntax.{w32}
 use mir.Val.{SFits}
 use borrow.Author.Needs.{needs}
-use Rattle.leaves.proofs.Signs.{wider}
+use Rattle.decimal.proofs.Signs.{wider}
 use Rattle.leaves.proofs.answer.short_decimal.Statement.{statement}
 use Rattle.leaves.proofs.answer.short_decimal.Tie as tie
 

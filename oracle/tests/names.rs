@@ -201,3 +201,28 @@ fn what_reading_names_is_defined_where_it_says() {
     assert!(found > 300, "{found} names");
     assert!(wrong.is_empty(), "\n{}\n", wrong.join("\n"));
 }
+
+#[test]
+fn what_trust_names_is_defined_where_it_says() {
+    let document = read("docs/TRUST.md");
+    let (mut wrong, mut found) = (vec![], 0);
+    for (at, cells) in rows(&document) {
+        let Some(file) = cells[0]
+            .strip_prefix('`')
+            .and_then(|cell| cell.strip_suffix(".antt`"))
+        else {
+            continue;
+        };
+        let source = read(&format!("crates/{file}.antt"));
+        for name in names(cells[1]) {
+            found += 1;
+            if !defined(&source).contains(name) {
+                wrong.push(format!(
+                    "docs/TRUST.md:{at}: `{name}` is not defined in {file}.antt"
+                ));
+            }
+        }
+    }
+    assert!(found > 20, "{found} names");
+    assert!(wrong.is_empty(), "\n{}\n", wrong.join("\n"));
+}

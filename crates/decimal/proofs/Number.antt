@@ -1,16 +1,18 @@
 -- Where a reader answers Number: at one of its decimal places, if all that stands before the place is read and a text stands there
 -- that is no plain decimal within its limits. Of a reader of parts the places are those of each part, behind what the parts before
--- it read, since nothing recovers from Number. Assumes nothing.
+-- it read, since nothing recovers from Number. And no part ends in another fault, so that the whole does not. Assumes nothing.
 use Prim.Native.Nat.{ℕ}
 use native.Mathlib.Omega.{arith}
 use mathlib.Core.Path.{_≡_, refl, ap, sym, _∙_, subst}
 use mathlib.Core.List.{List, [], _∷_, _++_}
-use mathlib.Core.Logic.{_⊎_, inl, inr}
-use mathlib.Core.Option.{Option·map}
-use Rattle.text.specs.Reader.{Parse, miss, refuse, got, Reader, Number, _>>=_, _>>_, pure, opt, alt, orTry}
+use mathlib.Core.Logic.{_≢_, _⊎_, inl, inr}
+use mathlib.Core.Option.{Option, none, some, Option·map}
+use lib.Dec.{eqb}
+use lib.ListN.{length}
+use Rattle.text.specs.Reader.{Fault, Parse, miss, refuse, got, Reader, Number, BadTime, _>>=_, _>>_, pure, opt, alt, orTry}
 use Rattle.text.proofs.Binds.{bind-refuse, bind-got, unbind, pure-is}
-use Rattle.text.proofs.Faults.{Never, clear-got, in-parts, never-pure, opt-only, opt-there}
-use Rattle.decimal.specs.Decimal.{Limits, text, decimal, short, long}
+use Rattle.text.proofs.Faults.{Clear, Never, Faultless, clear-got, clear-cond, clear-refuse, in-parts, never-bind, never-pure, opt-only, opt-there, never-opt, never-alt}
+use Rattle.decimal.specs.Decimal.{Limits, Decimal, text, fromComma, plain, orNumber, decimal, short, long}
 use Rattle.decimal.specs.Places.{shortOf, longOf, shortDecimal, longDecimal}
 use Rattle.decimal.proofs.Exactly.{NoDecimal, number-where, number-only}
 
@@ -56,10 +58,15 @@ abbrev pub OneBad : List Place → List ℕ → Type 0
 OneBad [] l = ⊥
 OneBad (p ∷ ps) l = Bad p l ⊎ OneBad ps l
 
--- the reader answers Number exactly where one of these places is bad
+-- the reader answers Number exactly where one of these places is bad, and ends in no other fault
 pub record NumberAt {A : Type 0} (r : Reader A) (ps : List Place) : Type 0 where
   pub only : (l : List ℕ) → r l ≡ refuse Number → OneBad ps l
   pub there : (l : List ℕ) → OneBad ps l → r l ≡ refuse Number
+  pub other : (f : Fault) → Number ≢ f → Never f r
+
+-- so not in BadTime
+pub no-bad-time : {A : Type 0} {r : Reader A} {ps : List Place} → NumberAt r ps → Never BadTime r
+no-bad-time h = h .other BadTime (λ e. let z : _≡_ {A = ℕ} 0 1 = cc in omega arith)
 
 -- places that stand behind what a reader reads
 abbrev pub behind : {A : Type 0} → Reader A → List Place → List Place
@@ -109,17 +116,22 @@ module _ {A : Type 0} (r : Reader A) (l : List ℕ) where
       record { value = t .value; rest = t .rest; reads = t .reads; bad = inr (t .bad) }
 
 -- a reader with no decimal place
-pub never : {A : Type 0} {r : Reader A} → Never Number r → NumberAt r []
-never h = record { only = h; there = λ l x. absurd x }
+pub never : {A : Type 0} {r : Reader A} → Faultless r → NumberAt r []
+never h = record { only = h Number; there = λ l x. absurd x; other = λ f n. h f }
 
 module _ {A B : Type 0} {r : Reader A} {k : A → Reader B} {ps : List Place} (h : NumberAt r ps) where
   -- one reader and then another
   pub both : {qs : List Place} → ((a : A) → NumberAt (k a) qs) → NumberAt (r >>= k) (ps ++ behind r qs)
-  both {qs} g = record { only = only; there = λ l x. there l (unappend ps (behind r qs) l x) }
+  both {qs} g =
+      record {
+        only = only;
+        there = λ l x. there l (unappend ps (behind r qs) l x);
+        other = λ f n. never-bind (h .other f n) (λ a. g a .other f n);
+      }
     where
       only : (l : List ℕ) → (r >>= k) l ≡ refuse Number → OneBad (ps ++ behind r qs) l
       only l e =
-          in-parts Number r k l (OneBad (ps ++ behind r qs) l)
+          in-parts r k l (OneBad (ps ++ behind r qs) l)
           (λ x. append ps (behind r qs) l (inl (h .only l x)))
           (λ a m x y. append ps (behind r qs) l (inr (go-on r l qs a m x (g a .only m y))))
           e
@@ -130,24 +142,33 @@ module _ {A B : Type 0} {r : Reader A} {k : A → Reader B} {ps : List Place} (h
           let t = come-from r l qs y in
           bind-got r k l (t .reads) ∙ g (t .value) .there (t .rest) (t .bad)
 
-  -- what follows has no decimal place
-  pub first : ((a : A) → Never Number (k a)) → NumberAt (r >>= k) ps
-  first g =
+  -- what follows ends in no fault, which may go by what was read
+  pub first-at : ((l : List ℕ) (a : A) (m : List ℕ) → r l ≡ got a m → (f : Fault) → Clear f (k a m)) → NumberAt (r >>= k) ps
+  first-at g =
       record {
-        only = λ l e. in-parts Number r k l (OneBad ps l) (h .only l) (λ a m x y. absurd (g a m y)) e;
+        only = λ l. in-parts r k l (OneBad ps l) (h .only l) (λ a m x y. absurd (g l a m x Number y));
         there = λ l x. bind-refuse r k l (h .there l x);
+        other = λ f n l. in-parts r k l ⊥ (h .other f n l) (λ a m x. g l a m x f);
       }
+
+  pub first : ((a : A) → Faultless (k a)) → NumberAt (r >>= k) ps
+  first g = first-at (λ l a m x f. g a f m)
 
 module _ {A : Type 0} where
   pub optional : {r : Reader A} {ps : List Place} → NumberAt r ps → NumberAt (opt r) ps
-  optional {r} h = record { only = λ l e. h .only l (opt-only Number r l e); there = λ l x. opt-there Number r l (h .there l x) }
+  optional {r} h =
+      record {
+        only = λ l e. h .only l (opt-only r l e);
+        there = λ l x. opt-there r l (h .there l x);
+        other = λ f n. never-opt (h .other f n);
+      }
 
-  module _ {r q : Reader A} {qs : List Place} (n : Never Number r) (h : NumberAt q qs) where
+  module _ {r q : Reader A} {qs : List Place} (n : Faultless r) (h : NumberAt q qs) where
     -- of two readers, where the first does not match: the second's places
     second-only : (l : List ℕ) (p : Parse A) → r l ≡ p → orTry p (q l) ≡ refuse Number → (r l ≡ miss) × OneBad qs l
     second-only l miss f e = (f, h .only l e)
-    second-only l (refuse x) f e = absurd (n l (f ∙ e))
-    second-only l (got a m) f e = absurd (clear-got Number a m e)
+    second-only l (refuse x) f e = absurd (n Number l (f ∙ e))
+    second-only l (got a m) f e = absurd (clear-got a m e)
 
     second-there : (l : List ℕ) → r l ≡ miss → OneBad qs l → alt r q l ≡ refuse Number
     unfolding alt
@@ -155,7 +176,12 @@ module _ {A : Type 0} where
 
     pub otherwise : NumberAt (alt r q) (behind (unless r) qs)
     unfolding alt unless
-    otherwise = record { only = λ l e. only l (second-only l (r l) refl e); there = there }
+    otherwise =
+        record {
+          only = λ l e. only l (second-only l (r l) refl e);
+          there = there;
+          other = λ f x. never-alt (n f) (h .other f x);
+        }
       where
         only : (l : List ℕ) → (r l ≡ miss) × OneBad qs l → OneBad (behind (unless r) qs) l
         only l w = go-on (unless r) l qs tt l (ap (λ (p : Parse A). orNot p l) (w .0)) (w .1)
@@ -169,21 +195,35 @@ module _ {A : Type 0} where
     -- where no text at such a place lets the first match
     pub apart : ((l : List ℕ) → OneBad qs l → r l ≡ miss) → NumberAt (alt r q) qs
     unfolding alt
-    apart g = record { only = λ l e. second-only l (r l) refl e .1; there = λ l x. second-there l (g l x) x }
+    apart g =
+        record {
+          only = λ l e. second-only l (r l) refl e .1;
+          there = λ l x. second-there l (g l x) x;
+          other = λ f x. never-alt (n f) (h .other f x);
+        }
 
 -- a decimal place by itself
 pub decimal-number : (lim : Limits) → NumberAt (decimal lim) (place lim here ∷ [])
-unfolding here pure
-decimal-number lim = record { only = λ l e. inl (record { rest = l; reached = refl; no-decimal = number-only lim l e }); there = there }
+unfolding here pure decimal
+decimal-number lim =
+    record {
+      only = λ l e. inl (record { rest = l; reached = refl; no-decimal = number-only lim l e });
+      there = there;
+      other = λ f n l. clear-cond (eqb (length (text l)) 0) (clear-got none (fromComma l)) (no-other f n (plain lim (text l)) (fromComma l));
+    }
   where
     there : (l : List ℕ) → OneBad (place lim here ∷ []) l → decimal lim l ≡ refuse Number
     there l (inl b) = number-where lim l (subst (λ (m : List ℕ). NoDecimal lim (text m)) (sym (pure-is (b .reached) .1)) (b .no-decimal))
     there l (inr x) = absurd x
 
+    no-other : (f : Fault) → Number ≢ f → (o : Option Decimal) (m : List ℕ) → Clear f (orNumber o m)
+    no-other f n none m = clear-refuse n
+    no-other f n (some d) m = clear-got (some d) m
+
 pub short-number : NumberAt shortDecimal (place short here ∷ [])
 unfolding shortDecimal
-short-number = first (decimal-number short) (λ d. never-pure Number (Option·map shortOf d))
+short-number = first (decimal-number short) (λ d f. never-pure (Option·map shortOf d))
 
 pub long-number : NumberAt longDecimal (place long here ∷ [])
 unfolding longDecimal
-long-number = first (decimal-number long) (λ d. never-pure Number (Option·map longOf d))
+long-number = first (decimal-number long) (λ d f. never-pure (Option·map longOf d))

@@ -2,12 +2,13 @@
 use Prim.Native.Nat.{ℕ, _+_, _*_, _-_, _/_, _%_, _^_, _≤_, _<_}
 use native.Mathlib.Nat.{mul-lt-mul-of-pos-right, mod-lt, mul-assoc, add-mul, div-add-mod'}
 use native.Mathlib.Omega.{arith}
-use mathlib.Core.Path.{_≡_, ap, sym, _∙_}
+use mathlib.Core.Path.{_≡_, ap, sym, _∙_, subst}
 use mathlib.Core.Bool.{Bool, cond, _&&_, and-false}
 use mathlib.Core.List.{List}
 use lib.Dec.{ltb}
 use borrow.Author.Tests.{le-ltb, lt-ltb}
-use Rattle.text.specs.Reader.{Parse, miss, refuse, got, BadTime}
+use Rattle.text.specs.Reader.{Fault, Parse, miss, refuse, got, BadTime}
+use Rattle.text.proofs.Faults.{Clear, clear-miss, clear-got, clear-cond}
 use Rattle.decimal.proofs.Power.{ten-pos, parts}
 use Rattle.fields.specs.Time.{Time, timed, clock, secondOf, nanosecondOf}
 
@@ -74,3 +75,12 @@ module _ (h m size d : ℕ) (l : List ℕ) where
   unfolding timed
   in-time j k n b =
       in-ranges j k n ∙ ap (λ (t : Bool). cond t (got time l) (refuse BadTime)) (lt-ltb (nanosecondOf size d) 1000000000 b)
+
+  -- with at most nine decimals it is not BadTime
+  pub clear-clock : {f : Fault} → d ≤ 9 → Clear f (clock h m size d l)
+  unfolding clock timed
+  clear-clock {f} few =
+      clear-cond (ltb h 24 && ltb m 60 && ltb (secondOf size d) 60)
+      (subst (λ (t : Bool). Clear f (cond t (got time l) (refuse BadTime)))
+      (sym (lt-ltb (nanosecondOf size d) 1000000000 (nanoseconds-lt size d few))) (clear-got time l))
+      clear-miss

@@ -1,65 +1,60 @@
 -- Where the fields of a sentence answer Number: a time at its seconds, a position at its minutes, a variation at its decimal, and a
--- date nowhere. An absent position or variation begins with a comma, and before or at a bad place stands none. Assumes nothing.
+-- date nowhere. An absent position or variation begins with a comma, and before or at a bad place stands none. No field ends in
+-- another fault: the seconds that were read have at most nine decimals. Assumes nothing.
 use Prim.Native.Nat.{ℕ, _<_}
 use native.Mathlib.Omega.{arith}
 use mathlib.Core.Path.{_≡_, refl, ap, sym, subst}
-use mathlib.Core.Bool.{Bool, true, false, cond, _&&_}
+use mathlib.Core.Bool.{Bool, true, false, cond}
 use mathlib.Core.List.{List, [], _∷_}
 use mathlib.Core.Logic.{inl, inr}
-use mathlib.Core.Option.{none, some}
-use lib.Dec.{eqb, leb, ltb}
+use mathlib.Core.Option.{Option, none, some}
+use lib.Dec.{leb}
 use lib.ListN.{length}
 use Rattle.text.specs.Bytes.{byte}
-use Rattle.text.specs.Reader.{Parse, miss, refuse, got, Number, BadTime, _>>_, char, oneOf, orMiss}
+use Rattle.text.specs.Reader.{Fault, miss, got, _>>=_, _>>_, char, orMiss}
 use Rattle.text.specs.Number.{fixed, twoBytes, threeBytes}
 use Rattle.text.proofs.Binds.{bind-miss, char-other, unbind, pure-is}
-use Rattle.text.proofs.Faults.{Never, clear-miss, clear-got, clear-cond, never-bind, never-pure, never-opt, never-orMiss, never-char, never-oneOf, never-fixed}
+use Rattle.text.proofs.Faults.{Clear, Never, clear-miss, never-bind, never-pure, never-opt, never-orMiss, never-char, never-oneOf, never-fixed}
 use Rattle.decimal.specs.Decimal.{text, short, long}
-use Rattle.decimal.proofs.Number.{Place, place, here, OneBad, NumberAt, never, both, first, optional, apart, short-number, long-number}
-use Rattle.fields.specs.Time.{secondOf, nanosecondOf, timed, clock, hms, optHms}
+use Rattle.decimal.specs.Places.{Long, longDecimal}
+use Rattle.decimal.proofs.Facts.{long-facts}
+use Rattle.decimal.proofs.Number.{Place, place, here, OneBad, NumberAt, never, both, first-at, first, optional, apart, short-number, long-number}
+use Rattle.fields.specs.Time.{clock, hms, optHms}
 use Rattle.fields.specs.Date.{fullYear, dateOf, date, optDate}
-use Rattle.fields.specs.Position.{positionOf, side, latitude, longitude, doLatLon, commas, latLon}
-use Rattle.fields.specs.Variation.{variationOf, doVariation, variation}
+use Rattle.fields.specs.Position.{side, latitude, longitude, doLatLon, commas, latLon}
+use Rattle.fields.specs.Variation.{doVariation, variation}
+use Rattle.fields.proofs.Clock.{clear-clock}
 
 -- the seconds stand behind hour and minute
 abbrev pub timePlaces : List Place
 timePlaces = place long (twoBytes >> (twoBytes >> here)) ∷ []
 
-never-clock : (h m size k : ℕ) → Never Number (clock h m size k)
-unfolding clock timed
-never-clock h m size k l =
-    clear-cond Number (ltb h 24 && ltb m 60 && ltb (secondOf size k) 60)
-    (clear-cond Number (ltb (nanosecondOf size k) 1000000000) (clear-got Number _ l) bad-time)
-    (clear-miss Number)
-  where
-    bad-time : {A : Type 0} → _≡_ {A = Parse A} (refuse BadTime) (refuse Number) → ⊥
-    bad-time e = let z : _≡_ {A = ℕ} 0 1 = cc in omega arith
+-- seconds that were read end in no fault
+clear-seconds : {f : Fault} (h m : ℕ) (l : List ℕ) (s : Option Long) (n : List ℕ) → longDecimal l ≡ got s n
+    → Clear f ((orMiss s >>= (λ d. clock h m (d .size) (d .decimals))) n)
+unfolding _>>=_ orMiss
+clear-seconds h m l none n e = clear-miss
+clear-seconds h m l (some d) n e = clear-clock h m (d .size) (d .decimals) n (long-facts l e .few)
 
-never-two : Never Number twoBytes
-never-two = never-fixed Number 2 255
+never-two : {f : Fault} → Never f twoBytes
+never-two = never-fixed 2 255
 
-never-comma : Never Number (char (byte ","))
-never-comma = never-char Number (byte ",")
+never-comma : {f : Fault} → Never f (char (byte ","))
+never-comma = never-char (byte ",")
 
-hms-number : NumberAt hms timePlaces
+pub hms-number : NumberAt hms timePlaces
 unfolding hms
 hms-number =
-    both (never never-two)
-    (λ h. both (never never-two)
-    (λ m. first long-number (λ s. never-bind Number (orMiss s) _ (never-orMiss Number s) (λ d. never-clock h m (d .size) (d .decimals)))))
+    both (never (λ f. never-two))
+    (λ h. both (never (λ f. never-two)) (λ m. first-at long-number (λ l s n e f. clear-seconds h m l s n e)))
 
 pub time-number : NumberAt optHms timePlaces
 time-number = optional hms-number
 
-pub never-date : Never Number optDate
+pub never-date : {f : Fault} → Never f optDate
 unfolding date
-never-date = never-opt Number date never-day
-  where
-    never-day : Never Number date
-    never-day =
-        never-bind Number twoBytes _ never-two
-        (λ d. never-bind Number twoBytes _ never-two
-        (λ m. never-bind Number twoBytes _ never-two (λ y. never-orMiss Number (dateOf d m (fullYear y)))))
+never-date =
+    never-opt (never-bind never-two (λ d. never-bind never-two (λ m. never-bind never-two (λ y. never-orMiss (dateOf d m (fullYear y))))))
 
 -- the minutes of latitude stand behind its degrees, those of longitude behind the latitude, a comma and degrees
 abbrev pub positionPlaces : List Place
@@ -69,18 +64,14 @@ side-number : (plus minus deg : ℕ) → NumberAt (side plus minus deg) (place l
 unfolding side
 side-number plus minus deg =
     first long-number
-    (λ s. never-bind Number (orMiss s) _ (never-orMiss Number s)
-    (λ m. never-bind Number (char (byte ",")) _ never-comma
-    (λ _. never-bind Number (oneOf plus minus) _ (never-oneOf Number plus minus)
-    (λ c. never-pure Number (positionOf deg m c (eqb c minus))))))
+    (λ s f. never-bind (never-orMiss s) (λ m. never-bind never-comma (λ _. never-bind (never-oneOf plus minus) (λ c. never-pure _))))
 
 do-number : NumberAt doLatLon positionPlaces
 unfolding doLatLon latitude longitude
 do-number =
-    both (both (never never-two) (side-number (byte "N") (byte "S")))
-    (λ lat. both (never never-comma)
-    (λ _. first (both (never (never-fixed Number 3 255)) (side-number (byte "E") (byte "W")))
-    (λ lon. never-pure Number (record { lat = lat; lon = lon }))))
+    both (both (never (λ f. never-two)) (side-number (byte "N") (byte "S")))
+    (λ lat. both (never (λ f. never-comma))
+    (λ _. first (both (never (λ f. never-fixed 3 255)) (side-number (byte "E") (byte "W"))) (λ lon f. never-pure _)))
 
 -- a text that does not begin with a comma
 not-first : (l : List ℕ) → ((m : List ℕ) → l ≡ byte "," ∷ m → ⊥) → char (byte ",") l ≡ miss
@@ -106,18 +97,12 @@ no-commas l x = bind-miss (char (byte ",")) _ l (by x)
     by (inr (inl b)) = two-comma l (unbind twoBytes _ l (unbind latitude _ l (b .reached) .one) .one)
     by (inr (inr x)) = absurd x
 
-never-commas : Never Number commas
-unfolding commas
-never-commas =
-    never-bind Number (char (byte ",")) _ never-comma
-    (λ _. never-bind Number (char (byte ",")) _ never-comma (λ _. never-comma))
-
 pub position-number : NumberAt latLon positionPlaces
-unfolding latLon
+unfolding latLon commas
 position-number =
     apart
-    (never-bind Number commas _ never-commas (λ _. never-pure Number none))
-    (first do-number (λ p. never-pure Number (some p)))
+    (λ f. never-bind (never-bind never-comma (λ _. never-bind never-comma (λ _. never-comma))) (λ _. never-pure none))
+    (first do-number (λ p f. never-pure (some p)))
     (λ l x. bind-miss commas _ l (no-commas l x))
 
 -- the variation's decimal stands first
@@ -128,10 +113,8 @@ magnetic-number : NumberAt doVariation variationPlaces
 unfolding doVariation
 magnetic-number =
     first short-number
-    (λ d. never-bind Number (orMiss d) _ (never-orMiss Number d)
-    (λ v. never-bind Number (char (byte ",")) _ never-comma
-    (λ _. never-bind Number (oneOf (byte "E") (byte "W")) _ (never-oneOf Number (byte "E") (byte "W"))
-    (λ c. never-pure Number (variationOf v (eqb c (byte "W")))))))
+    (λ d f. never-bind (never-orMiss d)
+    (λ v. never-bind never-comma (λ _. never-bind (never-oneOf (byte "E") (byte "W")) (λ c. never-pure _))))
 
 -- a text at a place does not begin with a comma
 text-comma : (l : List ℕ) → 0 < length (text l) → char (byte ",") l ≡ miss
@@ -148,6 +131,6 @@ pub variation-number : NumberAt variation variationPlaces
 unfolding variation
 variation-number =
     apart
-    (never-bind Number (char (byte ",")) _ never-comma (λ _. never-pure Number none))
-    (first magnetic-number (λ v. never-pure Number (some v)))
+    (λ f. never-bind never-comma (λ _. never-pure none))
+    (first magnetic-number (λ v f. never-pure (some v)))
     (λ l x. bind-miss (char (byte ",")) _ l (no-comma l x))

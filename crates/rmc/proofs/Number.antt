@@ -1,18 +1,18 @@
 -- 01: "A non-empty text that is not a plain decimal within limits is Number, exactly then .. Checks run left to right." The data of
 -- an RMC sentence has six decimal places, and is answered Number exactly where one of them is reached and bad: each place stands
--- behind what the parts before it read, and no other part answers Number. Assumes nothing.
+-- behind what the parts before it read, and no other part ends in a fault. Assumes nothing.
 use Prim.Native.Nat.{ℕ}
 use mathlib.Core.List.{List, [], _∷_, _++_}
 use mathlib.Core.Option.{Option, none, some}
 use Rattle.text.specs.Bytes.{byte}
-use Rattle.text.specs.Reader.{Reader, Number, _>>=_, _>>_, pure, opt, char, letterOf}
+use Rattle.text.specs.Reader.{Fault, Reader, _>>=_, _>>_, pure, char}
 use Rattle.text.specs.Number.{twoBytes, threeBytes}
 use Rattle.text.proofs.Faults.{Never, never-bind, never-pure, never-opt, never-char, never-letterOf}
 use Rattle.decimal.specs.Decimal.{short, long}
 use Rattle.decimal.proofs.Number.{Place, place, here, NumberAt, behind, never, both, first, short-number}
 use Rattle.fields.specs.Position.{latitude}
 use Rattle.fields.proofs.Number.{timePlaces, positionPlaces, variationPlaces, time-number, never-date, position-number, variation-number}
-use Rattle.rmc.specs.Rmc.{fixLetters, modeLetters, statusLetters, withComma, timePlace, statusPlace, shortPlace, datePlace, ifComma, optLetter, fixPart, motion, letters, ending, rmc}
+use Rattle.rmc.specs.Rmc.{fixLetters, modeLetters, statusLetters, withComma, timePlace, statusPlace, shortPlace, ifComma, optLetter, fixPart, motion, letters, ending, rmc}
 
 -- what is read before each place
 abbrev pub beforeSeconds : Reader (Unit {0})
@@ -65,54 +65,46 @@ rmcPlaces =
     ∷ []
 
 module _ {A : Type 0} where
-  never-rest : (a : A) → Never Number (char (byte ",") >>= (λ _. pure a))
-  never-rest a = never-bind Number (char (byte ",")) _ (never-char Number (byte ",")) (λ _. never-pure Number a)
+  never-rest : (a : A) {f : Fault} → Never f (char (byte ",") >>= (λ _. pure a))
+  never-rest a = never-bind (never-char (byte ",")) (λ _. never-pure a)
 
-  never-with : (r : Reader A) → Never Number r → Never Number (withComma r)
+  never-with : {f : Fault} {r : Reader A} → Never f r → Never f (withComma r)
   unfolding withComma
-  never-with r h = never-bind Number r _ h never-rest
+  never-with h = never-bind h (λ a. never-rest a)
 
   with-comma : {r : Reader A} {ps : List Place} → NumberAt r ps → NumberAt (withComma r) ps
   unfolding withComma
-  with-comma h = first h never-rest
+  with-comma h = first h (λ a f. never-rest a)
 
 fix-number : NumberAt fixPart (timePlaces ++ behind timePlace (behind statusPlace positionPlaces))
 unfolding fixPart
 fix-number =
     both (with-comma time-number)
-    (λ t. both (never (never-with (letterOf fixLetters) (never-letterOf Number fixLetters)))
-    (λ s. first (with-comma position-number) (λ p. never-pure Number (record { time = t; status = s; position = p }))))
+    (λ t. both (never (λ f. never-with (never-letterOf fixLetters))) (λ s. first (with-comma position-number) (λ p f. never-pure _)))
 
 motion-number : NumberAt motion (place short here ∷ behind shortPlace (place short here ∷ []))
 unfolding motion
 motion-number =
     both (with-comma short-number)
-    (λ s. first (with-comma short-number)
-    (λ c. never-bind Number datePlace _ (never-with _ never-date) (λ d. never-pure Number (record { speed = s; course = c; date = d }))))
+    (λ s. first (with-comma short-number) (λ c f. never-bind (never-with never-date) (λ d. never-pure _)))
 
-never-letter : (ls : List ℕ) → Never Number (optLetter ls)
-unfolding optLetter ifComma
-never-letter ls = never-bind Number (opt (char (byte ","))) (ifComma ls) (never-opt Number (char (byte ",")) (never-char Number (byte ","))) if-comma
-  where
-    if-comma : (o : Option (Unit {0})) → Never Number (ifComma ls o)
-    if-comma none = never-pure Number none
-    if-comma (some u) = never-opt Number (letterOf ls) (never-letterOf Number ls)
+module _ {f : Fault} where
+  never-letter : (ls : List ℕ) → Never f (optLetter ls)
+  unfolding optLetter ifComma
+  never-letter ls = never-bind (never-opt (never-char (byte ","))) if-comma
+    where
+      if-comma : (o : Option (Unit {0})) → Never f (ifComma ls o)
+      if-comma none = never-pure none
+      if-comma (some u) = never-opt (never-letterOf ls)
 
-never-letters : Never Number letters
-unfolding letters
-never-letters =
-    never-bind Number (optLetter modeLetters) _ (never-letter modeLetters)
-    (λ m. never-bind Number (optLetter statusLetters) _ (never-letter statusLetters) (λ s. never-pure Number (record { mode = m; status = s })))
+  never-letters : Never f letters
+  unfolding letters
+  never-letters = never-bind (never-letter modeLetters) (λ m. never-bind (never-letter statusLetters) (λ s. never-pure _))
 
 ending-number : NumberAt ending variationPlaces
 unfolding ending
-ending-number =
-    first variation-number
-    (λ v. never-bind Number letters _ never-letters (λ ls. never-pure Number (record { variation = v; letters = ls })))
+ending-number = first variation-number (λ v f. never-bind never-letters (λ ls. never-pure _))
 
 pub rmc-number : NumberAt rmc rmcPlaces
 unfolding rmc
-rmc-number =
-    both fix-number
-    (λ f. both motion-number
-    (λ m. first ending-number (λ e. never-pure Number (record { fix = f; motion = m; ending = e }))))
+rmc-number = both fix-number (λ f. both motion-number (λ m. first ending-number (λ e f. never-pure _)))

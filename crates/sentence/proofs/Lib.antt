@@ -4,7 +4,6 @@ pub mod Beside
 pub mod Types
 pub mod Worked
 pub mod OneByte
-pub mod Never
 pub mod Numbered
 pub mod Number
 pub mod Nines

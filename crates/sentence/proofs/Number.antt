@@ -16,9 +16,9 @@ use Rattle.frame.specs.Refused.{Refused, badNumber, wrongHeader}
 use Rattle.frame.specs.Types.{alike}
 use Rattle.frame.specs.Frame.{Parts, Outcome, accepted, refused, frame}
 use Rattle.frame.proofs.Texts.{alike-equal, alike-self}
-use Rattle.frame.proofs.Number.{never-framed}
+use Rattle.frame.proofs.Number.{Framed, framed-number}
 use Rattle.gsv.specs.Talker.{System}
-use Rattle.gsv.proofs.Number.{never-gsv}
+use Rattle.gsv.proofs.Never.{never-gsv}
 use Rattle.gsa.specs.System.{Settled, absent, is as settledAs, mismatch, settle}
 use Rattle.gsa.specs.Gsa.{Gsa}
 use Rattle.gsa.proofs.Number.{gsaPlaces, gsa-number}
@@ -116,11 +116,11 @@ module _ (p : Parts) where
 framed-only : (r : Parts → Answer) (l : List ℕ) (C : Type 0) → ((p : Parts) → frame l ≡ accepted p → IsNine (r p) → C)
     → IsNine (framedBy r (frame l)) → C
 unfolding numbered
-framed-only r l C go e = by (frame l) refl e
+framed-only r l C go e = by (frame l) refl (framed-number l) e
   where
-    by : (o : Outcome) → frame l ≡ o → IsNine (framedBy r o) → C
-    by (accepted p) f e = go p f e
-    by (refused x) f e = absurd (never-framed l x f e)
+    by : (o : Outcome) → frame l ≡ o → Framed o → IsNine (framedBy r o) → C
+    by (accepted p) f n e = go p f e
+    by (refused x) f n e = absurd (omega (arith, n .1, e))
 
 -- a reader of one type
 module _ (name : List ℕ) (r : Parts → Answer) (ps : List Place) (h : (p : Parts) → NineAt (r p) (OneBad ps (p .text))) (l : List ℕ) where

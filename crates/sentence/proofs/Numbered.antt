@@ -1,31 +1,31 @@
 -- A line's refusal has one of the numbers 1 to 9, and that of a reader of one type one of 1 to 10: 10 is theirs alone, 11 is never
--- met, 12 and 13 are a log's. So the number 0 says that a line is accepted. By the cases of framing, and then of each reader.
--- Assumes nothing.
+-- met, 12 and 13 are a log's. So the number 0 says that a line is accepted. Framing has 1 to 6, and the data ends in no fault but
+-- Number, GSV's in none. Assumes nothing.
 use Prim.Native.Nat.{ℕ, _≤_}
 use native.Mathlib.Omega.{arith}
-use mathlib.Core.Path.{_≡_, subst}
+use mathlib.Core.Path.{_≡_, refl, subst}
 use mathlib.Core.Logic.{_≢_}
 use mathlib.Core.Bool.{Bool, true, false, cond}
 use mathlib.Core.List.{List}
 use mathlib.Core.Option.{Option, none, some}
-use lib.Dec.{eqb, leb}
-use lib.ListN.{length}
-use Rattle.utf8.specs.Utf8.{utf8, ascii}
 use Rattle.text.specs.Bytes.{bytes}
-use Rattle.text.specs.Reader.{Fault, UnknownType, Number, BadTime, Parse, miss, refuse, got}
+use Rattle.text.specs.Reader.{UnknownType, Number, BadTime, Parse, miss, refuse, got}
 use Rattle.text.specs.Value.{value}
-use Rattle.fields.proofs.Never.{Fair}
-use Rattle.frame.specs.Refused.{badUtf8, notAscii, tooLong, badChecksum, badTime, wrongHeader, faulted}
+use Rattle.text.proofs.Faults.{Clear}
+use Rattle.decimal.proofs.Number.{no-bad-time}
+use Rattle.frame.specs.Refused.{badTime, wrongHeader}
 use Rattle.frame.specs.Types.{alike}
-use Rattle.frame.specs.Frame.{maxLength, Parts, accepted, refused, sentence, calculated, judged, sized, frame}
+use Rattle.frame.specs.Frame.{Parts, Outcome, accepted, refused, frame}
+use Rattle.frame.proofs.Number.{Framed, framed-number}
 use Rattle.gsv.specs.Talker.{System}
 use Rattle.gsv.specs.Gsv.{gsv}
+use Rattle.gsv.proofs.Never.{never-gsv}
 use Rattle.gsa.specs.System.{Settled, absent, is as settledAs, mismatch, settle}
 use Rattle.gsa.specs.Gsa.{Gsa, gsa}
+use Rattle.gsa.proofs.Number.{gsa-number}
 use Rattle.rmc.specs.Rmc.{rmc}
-use Rattle.rmc.proofs.Never.{never-rmc}
+use Rattle.rmc.proofs.Number.{rmc-number}
 use Rattle.sentence.specs.Sentence.{Answer, isRmc, isGsa, isGsv, isOther, isRefused, orRefused, rmcOf, gsaNames, settledGsa, gsaOf, gsvNames, gsvBy, gsvOf, framedBy, dispatch, answer, ofType, parseRmc, parseGsa, parseGsv}
-use Rattle.sentence.proofs.Never.{never-sentence, never-gsa, never-gsv}
 
 -- if an answer is a refusal, its number is one of 1 to `top`
 abbrev pub Numbered : ℕ → Answer → Type 0
@@ -36,35 +36,22 @@ Numbered top (isOther k) = Unit {0}
 Numbered top (isRefused r) = (1 ≤ r .number) × (r .number ≤ top)
 
 module _ (top : ℕ) (room : 9 ≤ top) where
-  of-fault : {A : Type 0} (f : Fault) → Fair {A = A} (refuse f) → Numbered top (isRefused (faulted f))
-  of-fault UnknownType h = (omega arith, omega arith)
-  of-fault Number h = (omega arith, omega arith)
-  of-fault BadTime h = absurd (h .fair)
-
   framed : (r : Parts → Answer) → ((p : Parts) → Numbered top (r p)) → (l : List ℕ) → Numbered top (framedBy r (frame l))
-  unfolding frame sized
-  framed r h l = by (utf8 l) (ascii l) (leb (length l) maxLength) (sentence l) (never-sentence l)
+  framed r h l = by (frame l) (framed-number l)
     where
-      last : (t : Bool) (p : Parts) → Numbered top (framedBy r (cond t (accepted p) (refused (badChecksum (calculated p) (p .checksum)))))
-      last true p = h p
-      last false p = (omega arith, omega arith)
+      by : (o : Outcome) → Framed o → Numbered top (framedBy r o)
+      by (accepted p) n = h p
+      by (refused x) n = (n .0, omega (arith, room, n .1))
 
-      by : (u a s : Bool) (x : Parse Parts) → Fair x
-          → Numbered top (framedBy r (cond u (cond a (cond s (judged x) (refused (tooLong (length l)))) (refused notAscii)) (refused badUtf8)))
-      by true true true miss k = (omega arith, omega arith)
-      by true true true (refuse f) k = of-fault f k
-      by true true true (got p m) k = last (eqb (calculated p) (p .checksum)) p
-      by true true false x k = (omega arith, omega arith)
-      by true false s x k = (omega arith, omega arith)
-      by false a s x k = (omega arith, omega arith)
-
-  reads : {A : Type 0} (f : A → Answer) → ((a : A) → Numbered top (f a)) → (p : Parse A) → Fair p → Numbered top (orRefused f (value p))
+  reads : {A : Type 0} (f : A → Answer) → ((a : A) → Numbered top (f a)) → (p : Parse A) → Clear BadTime p → Numbered top (orRefused f (value p))
   reads f h miss k = (omega arith, omega arith)
-  reads f h (refuse x) k = of-fault x k
+  reads f h (refuse UnknownType) k = (omega arith, omega arith)
+  reads f h (refuse Number) k = (omega arith, omega arith)
+  reads f h (refuse BadTime) k = absurd (k refl)
   reads f h (got a l) k = h a
 
   of-rmc : (p : Parts) → Numbered top (rmcOf p)
-  of-rmc p = reads isRmc (λ d. tt) (rmc (p .text)) (never-rmc (p .text))
+  of-rmc p = reads isRmc (λ d. tt) (rmc (p .text)) (no-bad-time rmc-number (p .text))
 
   settled : (t : List ℕ) (g : Gsa) (s : Settled) → Numbered top (settledGsa t g s)
   settled t g absent = tt
@@ -74,11 +61,11 @@ module _ (top : ℕ) (room : 9 ≤ top) where
   of-gsa : (p : Parts) → Numbered top (gsaOf p)
   of-gsa p =
       reads (λ g. settledGsa (p .talker) g (settle (gsaNames (p .talker)) (g .system)))
-      (λ g. settled (p .talker) g (settle (gsaNames (p .talker)) (g .system))) (gsa (p .text)) (never-gsa (p .text))
+      (λ g. settled (p .talker) g (settle (gsaNames (p .talker)) (g .system))) (gsa (p .text)) (no-bad-time gsa-number (p .text))
 
   named : (o : Option System) (p : Parts) → Numbered top (gsvBy o p)
   named none p = (omega arith, omega arith)
-  named (some s) p = reads (λ g. isGsv (record { talker = p .talker; system = s; body = g })) (λ g. tt) (gsv (p .text)) (never-gsv (p .text))
+  named (some s) p = reads (λ g. isGsv (record { talker = p .talker; system = s; body = g })) (λ g. tt) (gsv (p .text)) (never-gsv BadTime (p .text))
 
   of-gsv : (p : Parts) → Numbered top (gsvOf p)
   of-gsv p = named (gsvNames (p .talker)) p

@@ -22,7 +22,7 @@ extern "C" {
 #define NMEA_OTHER 4
 #define NMEA_REFUSED 5
 
-/* The number of the line's refusal, 0 if it is accepted: a record that we read, or a known type that we do not read. */
+/* The number of the line's refusal, at most 11; 0 exactly if it is accepted: a record that we read, or a known type that we do not read. */
 uint32_t nmea_refusal(const uint8_t *line, size_t length);
 
 /* The whole answer to a line. With a buffer of 40 words or more it writes the first 40, each of them, and answers 1; words after

@@ -23,7 +23,7 @@ use Rattle.gather.specs.declared.table.Gatherer.{Gatherer}
 use Rattle.gather.specs.declared.table.Gathered.{Gathered}
 use Rattle.gather.proofs.Tables.{held, AllStand, held-next, stand-next, group-same}
 use Rattle.fed.specs.Line.{Said, blank, saidOf, saidAll, gsvOf, gathers}
-use Rattle.fed.specs.Seen.{seen, seenOf, handedKey, Gives}
+use Rattle.fed.specs.Seen.{seen, seeing, seenOf, handedKey, Gives}
 use Rattle.fed.specs.Fed.{gathered, fedAt}
 use Rattle.fed.proofs.Accepted.{some-same, accepted-as}
 
@@ -81,16 +81,11 @@ map-take f zero l = refl
 map-take f (suc i) [] = refl
 map-take f (suc i) (x ∷ l) = ap (λ (r : List _). f x ∷ r) (map-take f i l)
 
-seeing : Said → Line Satellite
-seeing s = seen (gsvOf s)
-
 -- the line at i, as the theory sees it, and those before it
 seen-at : (ss : List Said) (i : ℕ) → seen (gsvOf (getD ss i blank)) ≡ getD (seenOf ss) i other
-unfolding seeing
 seen-at ss i = sym (List·getD-map seeing ss i blank)
 
 seen-before : (ss : List Said) (i : ℕ) → seenOf (take i ss) ≡ take i (seenOf ss)
-unfolding seeing
 seen-before ss i = map-take seeing i ss
 
 module _ (ls : List (List ℕ)) (i : ℕ) where

@@ -19,8 +19,11 @@ abbrev pub seen : Option GsvSentence → Line Satellite
 seen none = other
 seen (some s) = gsv (lineOf s)
 
+abbrev pub seeing : Said → Line Satellite
+seeing s = seen (gsvOf s)
+
 abbrev pub seenOf : List Said → List (Line Satellite)
-seenOf ss = map (λ (s : Said). seen (gsvOf s)) ss
+seenOf ss = map seeing ss
 
 -- the key of what a line hands out
 abbrev pub handedKey : Handed → Option ℕ

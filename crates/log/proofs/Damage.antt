@@ -13,12 +13,9 @@ use Rattle.groups.specs.Log.{Gsv, Line, gsv, other, Handed, own}
 use Rattle.groups.specs.Group.{HandedOut, EndIn}
 use Rattle.groups.proofs.Damage.{same-after-damage}
 use Rattle.gsv.specs.Gsv.{Satellite}
-use Rattle.fed.specs.Line.{Said, blank, saidOf, gsvOf}
-use Rattle.fed.specs.Seen.{seen, seenOf}
+use Rattle.fed.specs.Line.{Said, blank, saidOf}
+use Rattle.fed.specs.Seen.{seeing, seenOf}
 use Rattle.log.specs.Told.{says, told}
-
-abbrev seeing : Said → Line Satellite
-seeing s = seen (gsvOf s)
 
 -- the lines of whole lines, and then of anything
 says-append : (a b : List ℕ) → Whole a ⊎ (b ≡ []) → says (a ++ b) ≡ says a ++ says b

@@ -1,4 +1,5 @@
-//! Reads docs/DIFFERENCES.md.
+//! Reads docs/DIFFERENCES.md. Each test that does so uses a part of this.
+#![allow(dead_code)]
 
 const DOCUMENT: &str = include_str!("../../../docs/DIFFERENCES.md");
 

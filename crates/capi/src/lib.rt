@@ -1,4 +1,5 @@
 // What C and Rust call: a line's refusal number, and its whole answer in 40 words.
+pub mod lend;
 pub mod totals;
 
 ghost use mathlib.Core.Logic.{_↔_};

@@ -3,12 +3,10 @@ use Prim.Native.Nat.{ℕ, _+_}
 use mathlib.Core.List.{List, [], _∷_}
 use mathlib.Core.Bool.{Bool, true, false}
 use lib.ListN.{take, getD}
-use Rattle.gather.specs.Table.{freshGatherer}
-use Rattle.gather.specs.declared.table.Gatherer.{Gatherer}
-use Rattle.gather.specs.declared.table.Gathered.{Gathered}
-use Rattle.gather.specs.declared.table.Handed.{Handed}
-use Rattle.gather.specs.declared.table.Handed.the-variants.{Nothing, Of}
-use Rattle.fed.specs.Line.{Said, blank, gsvOf, gathers}
+use Rattle.gather.specs.Table.{freshTable}
+use Rattle.gather.specs.declared.line.Outcome.{Outcome}
+use Rattle.gather.specs.declared.line.Outcome.the-variants.{NoRow, Nothing, Waiting, Complete}
+use Rattle.fed.specs.Line.{Said, blank, gsvOf, Gatherer, Gathered, gathers}
 
 -- a Bool as the number of times that it is so
 abbrev pub onceIf : Bool → ℕ
@@ -27,11 +25,13 @@ gathered g (s ∷ ss) = gathered (gathers g (gsvOf s) .gatherer) ss
 
 -- what the line at i does: "Demand 3 speaks of place 0 and a fresh gatherer", so to one that was fresh before the first line
 abbrev pub fedAt : List Said → ℕ → Gathered
-fedAt ss i = gathers (gathered freshGatherer (take i ss)) (gsvOf (getD ss i blank))
+fedAt ss i = gathers (gathered freshTable (take i ss)) (gsvOf (getD ss i blank))
 
-abbrev pub isHanded : Handed → Bool
+abbrev pub isHanded : Outcome → Bool
+isHanded NoRow = false
 isHanded Nothing = false
-isHanded (Of s) = true
+isHanded Waiting = false
+isHanded Complete = true
 
 -- how many of them hand out a group
 abbrev pub groupsOf : Gatherer → List Said → ℕ

@@ -4,11 +4,10 @@ use mathlib.Core.List.{List, [], _∷_, map}
 use mathlib.Core.Bool.{Bool, true, false}
 use mathlib.Core.Option.{Option, none, some}
 use Rattle.sentence.specs.Sentence.{Answer, isRmc, isGsa, isGsv, isOther, isRefused, GsvSentence, answer}
-use Rattle.gather.specs.declared.table.Gatherer.{Gatherer}
-use Rattle.gather.specs.declared.table.Gathered.{Gathered}
-use Rattle.gather.specs.declared.table.Handed.the-variants.{Nothing}
-use Rattle.gather.specs.Put.{noGroup}
-use Rattle.gather.specs.Table.{gatheredOf}
+use Rattle.rows.specs.Line.{lineOf}
+use Rattle.gather.specs.Table.{tableAfter, saidBy}
+use Rattle.gather.specs.declared.line.Outcome.{Outcome}
+use Rattle.gather.specs.declared.line.Outcome.the-variants.{Nothing}
 
 pub data Said : Type 0 where
   blank : Said
@@ -53,10 +52,19 @@ gsvOf (read (isGsv s)) = some s
 gsvOf (read (isOther k)) = none
 gsvOf (read (isRefused r)) = none
 
+-- the gatherer is the words that are lent
+abbrev pub Gatherer : Type 0
+Gatherer = List ℕ
+
+-- the words after a line, and what it says of its row
+pub record Gathered : Type 0 where
+  pub gatherer : Gatherer
+  pub handed : Outcome
+
 abbrev pub untouched : Gatherer → Gathered
-untouched g = record { gatherer = g; handed = Nothing; group = noGroup }
+untouched g = record { gatherer = g; handed = Nothing }
 
 -- only an accepted GSV line does anything
 abbrev pub gathers : Gatherer → Option GsvSentence → Gathered
 gathers g none = untouched g
-gathers g (some s) = gatheredOf g s
+gathers g (some s) = record { gatherer = tableAfter g (lineOf s); handed = saidBy g (lineOf s) }

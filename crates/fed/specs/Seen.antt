@@ -1,19 +1,19 @@
 -- Lines as the theory of groups sees them: for each in order, the accepted GSV line that it is, or other.
 use Prim.Native.Nat.{ℕ}
-use mathlib.Core.Path.{_≡_}
 use mathlib.Core.List.{List, map}
 use mathlib.Core.Option.{Option, none, some}
-use Rattle.gsv.specs.Answer.{gnss}
+use lib.ListN.{getD}
 use Rattle.gsv.specs.Gsv.{Satellite}
 use Rattle.groups.specs.Log.{Line, gsv, other, Handed as Out}
 use Rattle.rows.specs.Key.{keyOf}
 use Rattle.rows.specs.Line.{lineOf}
 use Rattle.sentence.specs.Sentence.{GsvSentence}
-use Rattle.gather.specs.Put.{groupOf}
-use Rattle.gather.specs.declared.table.Handed.{Handed}
-use Rattle.gather.specs.declared.table.Handed.the-variants.{Nothing, Of}
-use Rattle.gather.specs.declared.table.Gathered.{Gathered}
-use Rattle.fed.specs.Line.{Said, gsvOf}
+use Rattle.gather.specs.Words.{groupOf}
+use Rattle.gather.specs.Table.{rowOf}
+use Rattle.gather.specs.declared.line.Outcome.{Outcome}
+use Rattle.gather.specs.declared.line.Outcome.the-variants.{NoRow, Nothing, Waiting, Complete}
+use Rattle.fed.specs.Line.{Said, blank, gsvOf, Gatherer, Gathered}
+use Rattle.fed.specs.Fed.{fedAt}
 
 abbrev pub seen : Option GsvSentence → Line Satellite
 seen none = other
@@ -25,12 +25,16 @@ seeing s = seen (gsvOf s)
 abbrev pub seenOf : List Said → List (Line Satellite)
 seenOf ss = map seeing ss
 
--- the key of what a line hands out
-abbrev pub handedKey : Handed → Option ℕ
-handedKey Nothing = none
-handedKey (Of s) = some (keyOf (gnss s))
+-- what a line hands out: where it says that its row is complete, the words of that row are the group
+abbrev pub handedIn : Outcome → ℕ → Gatherer → Option (Out Satellite)
+handedIn NoRow κ t = none
+handedIn Nothing κ t = none
+handedIn Waiting κ t = none
+handedIn Complete κ t = some (record { key = κ; group = groupOf (rowOf t κ) })
 
--- a line hands out this group
-pub record Gives (a : Gathered) (h : Out Satellite) : Type 0 where
-  pub key : handedKey (a .handed) ≡ some (h .key)
-  pub group : a .group ≡ groupOf (some (h .group))
+abbrev pub givenBy : Option GsvSentence → Gathered → Option (Out Satellite)
+givenBy none a = none
+givenBy (some s) a = handedIn (a .handed) (keyOf (s .system)) (a .gatherer)
+
+abbrev pub givenAt : List Said → ℕ → Option (Out Satellite)
+givenAt ss i = givenBy (gsvOf (getD ss i blank)) (fedAt ss i)

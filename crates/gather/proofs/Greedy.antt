@@ -1,27 +1,22 @@
--- Greedy packing, an entry at a time.
+-- Greedy packing of a row's cells, a cell at a time. Assumes nothing.
 use Prim.Native.Nat.{ℕ, suc, _+_, _-_, _≤_, _<_}
 use native.Mathlib.Omega.{arith}
-use mathlib.Core.Path.{_≡_, refl, ap, sym, _∙_, subst}
-use mathlib.Core.List.{List, _∷_}
+use native.Mathlib.Numerals.{add-one}
+use mathlib.Core.Path.{_≡_, refl, ap, sym, _∙_}
+use mathlib.Core.List.{List, [], _∷_}
 use mathlib.Core.Bool.{Bool, true, false, _&&_, cond}
 use lib.Dec.{leb, ltb}
-use lib.ListN.{length, take, drop, getD, length-take, drop-of-length-le}
-use lib.Seq.{drop-cons, getD-take}
-use native.Mathlib.Numerals.{add-one}
-use borrow.Author.Tests.{lt-ltb, le-ltb, le-leb, lt-leb, leb-true}
+use lib.ListN.{length}
+use borrow.Author.Tests.{lt-ltb, le-ltb, le-leb, lt-leb, leb-true, eq-eqb, ne-eqb}
 use Rattle.short.specs.Digits.{digitsOf}
 use Rattle.short.proofs.Digits.{digit-one}
+use Rattle.short.proofs.Texts.{entry-length}
 use Rattle.pack.specs.Cut.{more, pieceCount}
-use Rattle.text.specs.Answer.{held}
-use Rattle.gsv.specs.Answer.{satellite}
-use Rattle.gather.specs.Lent.{sizeOf}
+use Rattle.gsv.specs.Gsv.{Satellite}
+use Rattle.rows.specs.Leave.{entrySize}
+use Rattle.gather.specs.Words.{numberOf, satAt, satsFrom}
 use Rattle.gather.specs.Pile.{Digits, OptDigits, Sized, putOn}
 use Rattle.gather.specs.declared.lent.Pile.{Pile}
-use Rattle.text.specs.declared.Held.{Held}
-use Rattle.text.specs.declared.Held.the-variants.{Known}
-use Rattle.gsv.specs.declared.SatInfo.{SatInfo}
-use Rattle.gather.specs.Cells.{noSat}
-use Rattle.short.proofs.Texts.{entry-length}
 
 pub one : (n : ℕ) → n < 10 → length (digitsOf n) ≡ 1
 one n h = ap length (digit-one n h)
@@ -37,18 +32,18 @@ pub put-over : (p : Pile) (w room : ℕ) → p .count < 4 → room < p .used + w
 put-over p w room h k = simp (lt-ltb (p .count) 4 h, lt-leb (p .used + w) room k)
 
 -- the pile after an entry, and those that are left
-pub put-more : (p : Pile) (s : SatInfo) (ss : List SatInfo) (room : ℕ)
-    → p .lines + more sizeOf room (p .count) (p .used) (s ∷ ss)
-    ≡ putOn p (sizeOf s) room .lines + more sizeOf room (putOn p (sizeOf s) room .count) (putOn p (sizeOf s) room .used) ss
+put-more : (p : Pile) (s : Satellite) (ss : List Satellite) (room : ℕ)
+    → p .lines + more entrySize room (p .count) (p .used) (s ∷ ss)
+    ≡ putOn p (entrySize s) room .lines + more entrySize room (putOn p (entrySize s) room .count) (putOn p (entrySize s) room .used) ss
 unfolding more
-put-more p s ss room = by (ltb (p .count) 4 && leb (p .used + sizeOf s) room)
+put-more p s ss room = by (ltb (p .count) 4 && leb (p .used + entrySize s) room)
   where
     q : Bool → Pile
-    q t = cond t (record { lines = p .lines; count = p .count + 1; used = p .used + sizeOf s }) (record { lines = p .lines + 1; count = 1; used = sizeOf s })
+    q t = cond t (record { lines = p .lines; count = p .count + 1; used = p .used + entrySize s }) (record { lines = p .lines + 1; count = 1; used = entrySize s })
 
     by : (t : Bool)
-        → p .lines + (cond t 0 1 + more sizeOf room (cond t (suc (p .count)) 1) (cond t (p .used + sizeOf s) (sizeOf s)) ss)
-        ≡ q t .lines + more sizeOf room (q t .count) (q t .used) ss
+        → p .lines + (cond t 0 1 + more entrySize room (cond t (suc (p .count)) 1) (cond t (p .used + entrySize s) (entrySize s)) ss)
+        ≡ q t .lines + more entrySize room (q t .count) (q t .used) ss
     by true =
         let z : suc (p .count) ≡ p .count + 1 = omega arith in
         rw z (omega arith)
@@ -59,7 +54,7 @@ pub record Small (i : ℕ) (p : Pile) : Type 0 where
   pub lines : p .lines ≤ i
   pub used : p .used ≤ 88
 
-pub small-put : (i : ℕ) (p : Pile) (w room : ℕ) → Small i p → w ≤ 44 → room ≤ 88 → Small (i + 1) (putOn p w room)
+small-put : (i : ℕ) (p : Pile) (w room : ℕ) → Small i p → w ≤ 44 → room ≤ 88 → Small (i + 1) (putOn p w room)
 small-put i p w room h k l = by (ltb (p .count) 4) (leb (p .used + w) room) refl
   where
     by : (a b : Bool) → leb (p .used + w) room ≡ b
@@ -70,55 +65,58 @@ small-put i p w room h k l = by (ltb (p .count) 4) (leb (p .used + w) room) refl
     by true false e = record { lines = omega (arith, h .lines); used = omega arith }
     by false b e = record { lines = omega (arith, h .lines); used = omega arith }
 
-pub opt-is : (m : Held) (x r : ℕ) → m ≡ Known x → Digits x r → OptDigits (held m) r
-opt-is m x r e d = rw e (record { count = d .count; few = d .few })
+pub no-digits : (x : ℕ) → x ≡ 4294967295 → OptDigits (numberOf x) 0
+no-digits x e = rw (eq-eqb x 4294967295 e) (record { count = refl; few = omega arith })
 
-pub sized : (s : SatInfo) (a b c d : ℕ) → Digits (s .id) a → OptDigits (held (s .elevation)) b → OptDigits (held (s .azimuth)) c
-    → OptDigits (held (s .signal)) d → Sized s (a + b + c + d + 4)
+pub its-digits : (x r : ℕ) → (x ≡ 4294967295 → ⊥) → Digits x r → OptDigits (numberOf x) r
+its-digits x r e d = rw (ne-eqb x 4294967295 e) (record { count = d .count; few = d .few })
+
+pub sized : (s : Satellite) (a b c d : ℕ) → Digits (s .id) a → OptDigits (s .elevation) b → OptDigits (s .azimuth) c
+    → OptDigits (s .signal) d → Sized s (a + b + c + d + 4)
 sized s a b c d p q r t =
-    record { bytes = omega (arith, entry-length (satellite s), p .count, q .count, r .count, t .count); few = omega (arith, p .few, q .few, r .few, t .few) }
+    record { bytes = omega (arith, entry-length s, p .count, q .count, r .count, t .count); few = omega (arith, p .few, q .few, r .few, t .few) }
 
--- what greedy makes of some entries, where i of them are in the pile
-unfoldable pub Packing : ℕ → List SatInfo → ℕ → Pile → Type 0
-Packing room es i p = pieceCount sizeOf room es ≡ p .lines + more sizeOf room (p .count) (p .used) (drop i es)
+-- a cell and those after it
+pub cell-first : (ws : List ℕ) (count i : ℕ) → i < count → satsFrom i (count - i) ws ≡ satAt ws i ∷ satsFrom (i + 1) (count - (i + 1)) ws
+cell-first ws count i h =
+    let z : count - i ≡ suc (count - (i + 1)) = omega arith in
+    ap (λ (k : ℕ). satsFrom i k ws) z ∙ ap (λ (j : ℕ). satAt ws i ∷ satsFrom j (count - (i + 1)) ws) (sym (add-one i))
 
-pub start : (room : ℕ) (es : List SatInfo) → Packing room es 0 (record { lines = 0; count = 4; used = 0 })
+pub cells-none : (ws : List ℕ) (count i : ℕ) → count ≤ i → satsFrom i (count - i) ws ≡ []
+cells-none ws count i h = let z : count - i ≡ 0 = omega arith in ap (λ (k : ℕ). satsFrom i k ws) z
+
+-- what greedy makes of the cells, where i of them are in the pile
+unfoldable pub Packing : ℕ → List ℕ → ℕ → ℕ → Pile → Type 0
+Packing room ws count i p = pieceCount entrySize room (satsFrom 0 count ws) ≡ p .lines + more entrySize room (p .count) (p .used) (satsFrom i (count - i) ws)
+
+pub start : (room : ℕ) (ws : List ℕ) (count : ℕ) → Packing room ws count 0 (record { lines = 0; count = 4; used = 0 })
 unfolding Packing
-start room es = omega arith
-
-pub again : (room : ℕ) (es : List SatInfo) (i : ℕ) (p : Pile) (d : SatInfo) → i < length es → Packing room es i p
-    → Packing room es (i + 1) (putOn p (sizeOf (getD es i d)) room)
-unfolding Packing
-again room es i p d h e =
-    e
-    ∙ ap (λ (l : List SatInfo). p .lines + more sizeOf room (p .count) (p .used) l) (drop-cons es i d h)
-    ∙ put-more p (getD es i d) (drop (suc i) es) room
-    ∙ ap (λ (k : ℕ). q .lines + more sizeOf room (q .count) (q .used) (drop k es)) (sym (add-one i))
-  where
-    q : Pile
-    q = putOn p (sizeOf (getD es i d)) room
-
-pub finish : (room : ℕ) (es : List SatInfo) (i : ℕ) (p : Pile) → length es ≤ i → Packing room es i p → p .lines ≡ pieceCount sizeOf room es
-unfolding Packing more
-finish room es i p h e =
-    let z : p .lines + more sizeOf room (p .count) (p .used) (drop i es) ≡ p .lines + 0 =
-    ap (λ (l : List SatInfo). p .lines + more sizeOf room (p .count) (p .used) l) (drop-of-length-le es h)
-    in
+start room ws count =
+    let z : count ≡ count - 0 = omega arith in
+    let y : more entrySize room 4 0 (satsFrom 0 count ws) ≡ more entrySize room 4 0 (satsFrom 0 (count - 0) ws) = ap (λ (k : ℕ). more entrySize room 4 0 (satsFrom 0 k ws)) z in
     omega arith
 
 -- one turn of the loop
 pub small-turn : (i : ℕ) (p q : Pile) (w room : ℕ) → q ≡ putOn p w room → Small i p → w ≤ 44 → room ≤ 88 → Small (i + 1) q
 small-turn i p q w room e h k l = rw e (small-put i p w room h k l)
 
-pub pack-turn : (room count : ℕ) (sats : List SatInfo) (i : ℕ) (p q : Pile) (w : ℕ) → q ≡ putOn p w room → w ≡ sizeOf (getD sats i noSat)
-    → i < count → count ≤ length sats → Packing room (take count sats) i p → Packing room (take count sats) (i + 1) q
-pack-turn room count sats i p q w e f h k g =
-    let l : i < length (take count sats) = simp length-take (omega arith) in
-    let z : putOn p (sizeOf (getD (take count sats) i noSat)) room ≡ q =
-    ap (λ (s : SatInfo). putOn p (sizeOf s) room) (getD-take count sats i noSat h) ∙ ap (λ (v : ℕ). putOn p v room) (sym f) ∙ sym e
-    in
-    subst (λ (q : Pile). Packing room (take count sats) (i + 1) q) z (again room (take count sats) i p noSat l g)
+pub pack-turn : (room : ℕ) (ws : List ℕ) (count i : ℕ) (p q : Pile) (w : ℕ) → q ≡ putOn p w room → w ≡ entrySize (satAt ws i)
+    → i < count → Packing room ws count i p → Packing room ws count (i + 1) q
+unfolding Packing
+pack-turn room ws count i p q w e f h g =
+    g
+    ∙ ap (λ (l : List Satellite). p .lines + more entrySize room (p .count) (p .used) l) (cell-first ws count i h)
+    ∙ put-more p (satAt ws i) rest room
+    ∙ ap (λ (q : Pile). q .lines + more entrySize room (q .count) (q .used) rest) (ap (λ (v : ℕ). putOn p v room) (sym f) ∙ sym e)
+  where
+    rest : List Satellite
+    rest = satsFrom (i + 1) (count - (i + 1)) ws
 
-pub pack-end : (room count : ℕ) (sats : List SatInfo) (i : ℕ) (p : Pile) → count ≤ i → Packing room (take count sats) i p
-    → p .lines ≡ pieceCount sizeOf room (take count sats)
-pack-end room count sats i p h g = finish room (take count sats) i p (simp length-take (omega arith)) g
+pub pack-end : (room : ℕ) (ws : List ℕ) (count i : ℕ) (p : Pile) → count ≤ i → Packing room ws count i p
+    → p .lines ≡ pieceCount entrySize room (satsFrom 0 count ws)
+unfolding Packing more
+pack-end room ws count i p h e =
+    let z : p .lines + more entrySize room (p .count) (p .used) (satsFrom i (count - i) ws) ≡ p .lines + 0 =
+    ap (λ (l : List Satellite). p .lines + more entrySize room (p .count) (p .used) l) (cells-none ws count i h)
+    in
+    omega arith

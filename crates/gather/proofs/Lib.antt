@@ -1,10 +1,9 @@
 pub mod Tests
-pub mod Padding
-pub mod Back
 pub mod Greedy
+pub mod Quick
+pub mod Cells
 pub mod Runs
-pub mod Keys
-pub mod Meaning
+pub mod Decode
 pub mod Tables
 pub mod LentRows
 pub mod Worked

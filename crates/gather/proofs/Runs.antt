@@ -1,58 +1,44 @@
--- A line starts a run, goes on with one, or does neither: what the code's entries before a line say of the theory's. Assumes nothing.
-use Prim.Native.Nat.{_+_, _-_, _≤_, _<_}
+-- A line starts a run, goes on with one, or does neither, and what it writes. Assumes nothing.
+use Prim.Native.Nat.{ℕ, _+_, _-_, _*_, _≤_, _<_}
 use native.Mathlib.Omega.{arith}
 use mathlib.Core.Path.{_≡_, refl, ap, sym, _∙_}
-use mathlib.Core.List.{List, [], _++_, map, map-append}
+use mathlib.Core.List.{List, [], _++_}
 use mathlib.Core.Bool.{Bool, true, false, _&&_, false≢true, cond, and-eq-true-iff}
 use mathlib.Core.Option.{Option, none, some, Option·none-ne-some}
-use borrow.Author.Tests.{eq-eqb, ne-eqb, le-leb, lt-leb, leb-true, eqb-true}
+use borrow.Author.Tests.{eq-eqb, ne-eqb, le-leb, lt-leb, eqb-true}
 use lib.Dec.{eqb, leb}
-use lib.ListN.{length, take, length-append, length-map}
-use lib.Seq.{paste, length-take-le}
+use lib.ListN.{length, getD, set}
+use lib.Seq.{sets}
 use Rattle.groups.specs.Log.{Gsv}
 use Rattle.groups.specs.Step.{Open, Out, onward, sofar, taken, step}
-use Rattle.gsv.specs.Gsv.{Satellite, present}
-use Rattle.gsv.specs.Answer.{satellite}
-use Rattle.gsv.specs.declared.SatInfo.{SatInfo}
-use Rattle.pack.specs.Cut.{pieceCount}
+use Rattle.gsv.specs.Gsv.{Satellite}
 use Rattle.pack.proofs.Few.{four-each}
-use Rattle.rows.specs.Leave.{space}
-use Rattle.rows.specs.Line.{lineOf}
-use Rattle.sentence.specs.Sentence.{GsvSentence}
-use Rattle.gather.specs.Cells.{cell, pad, fourOf}
-use Rattle.gather.specs.Lent.{cellsGood, sizeOf, stands}
-use Rattle.gather.specs.Put.{opened, meant, onRow, beforeOf, emptyRow, noGroup, putOf, keptOf}
-use Rattle.gather.specs.declared.row.Row.{Row}
-use Rattle.gather.specs.declared.row.Group.{Group}
+use Rattle.rows.specs.Leave.{entrySize, space}
+use Rattle.rows.proofs.Row.{passes}
+use Rattle.gather.specs.Words.{satsFrom, openOf, stands, meant, flat}
+use Rattle.gather.specs.Put.{nextOf, written, rowAfter, told, outcomeOf, Put, headed, onRow, beforeOf, Stored}
 use Rattle.gather.specs.declared.line.Before.{Before}
-use Rattle.gather.specs.declared.line.Four.{Four}
-use Rattle.gather.specs.declared.line.Outcome.{Outcome}
-use Rattle.gather.specs.declared.line.Kept.{Kept}
-use Rattle.gather.proofs.Padding.{good-pad, added}
-use Rattle.gsv.proofs.Present.{at-most-four}
-use Rattle.gather.proofs.Back.{backs}
-
-abbrev pub nothing : Out Satellite
-nothing = record { row = none; group = none }
+use Rattle.gather.specs.declared.line.Outcome.the-variants.{NoRow, Nothing, Waiting, Complete}
+use Rattle.gather.proofs.Quick.{sats-long}
 
 -- a line numbered 1
-module _ (r : Option (Open Satellite)) (l : GsvSentence) (one : l .body .index ≡ 1) where
-  pub too-few : l .body .count < 1 → sofar r (lineOf l) ≡ none
-  too-few h = simp (eq-eqb (l .body .index) 1 one, lt-leb 1 (l .body .count) h)
+module _ (r : Option (Open Satellite)) (n k v : ℕ) (one : k ≡ 1) where
+  pub too-few : n < 1 → sofar r (headed n k v) ≡ none
+  too-few h = simp (eq-eqb k 1 one, lt-leb 1 n h)
 
-  pub too-many : 1 ≤ l .body .count → 9 < l .body .count → sofar r (lineOf l) ≡ none
-  too-many h k = simp (eq-eqb (l .body .index) 1 one, le-leb 1 (l .body .count) h, lt-leb (l .body .count) 9 k)
+  pub too-high : 1 ≤ n → 9 < n → sofar r (headed n k v) ≡ none
+  too-high h l = simp (eq-eqb k 1 one, le-leb 1 n h, lt-leb n 9 l)
 
-  pub starts : 1 ≤ l .body .count → l .body .count ≤ 9 → sofar r (lineOf l) ≡ some []
-  starts h k = simp (eq-eqb (l .body .index) 1 one, le-leb 1 (l .body .count) h, le-leb (l .body .count) 9 k)
+  pub starts : 1 ≤ n → n ≤ 9 → sofar r (headed n k v) ≡ some []
+  starts h l = simp (eq-eqb k 1 one, le-leb 1 n h, le-leb n 9 l)
 
 -- another line
-module _ (r : Row) (l : GsvSentence) where
-  on-is : onward (meant r) (lineOf l) ≡ cond (onRow r l) (some (opened r .sats)) none
-  on-is = go (stands r)
+module _ (ws : List ℕ) (n k v : ℕ) where
+  on-is : onward (meant ws) (headed n k v) ≡ cond (onRow ws n k v) (some (openOf ws .sats)) none
+  on-is = go (stands ws)
     where
       es : Option (List Satellite)
-      es = some (opened r .sats)
+      es = some (openOf ws .sats)
 
       tests : (a b c : Bool) → cond (a && (b && c)) es none ≡ cond (a && (b && (c && true))) es none
       tests true true true = refl
@@ -66,176 +52,147 @@ module _ (r : Row) (l : GsvSentence) where
       fails true false c = refl
       fails false b c = refl
 
-      go : (s : Bool) → onward (cond s (some (opened r)) none) (lineOf l)
-          ≡ cond (eqb (l .body .count) (r .n) && (eqb (l .body .index) (r .next) && (eqb (l .body .view) (r .view) && s))) es none
-      go true = tests (eqb (l .body .count) (r .n)) (eqb (l .body .index) (r .next)) (eqb (l .body .view) (r .view))
-      go false = fails (eqb (l .body .count) (r .n)) (eqb (l .body .index) (r .next)) (eqb (l .body .view) (r .view))
+      go : (s : Bool) → onward (cond s (some (openOf ws)) none) (headed n k v)
+          ≡ cond (eqb n (getD ws 0 0) && (eqb k (getD ws 1 0) && (eqb v (getD ws 2 0) && s))) es none
+      go true = tests (eqb n (getD ws 0 0)) (eqb k (getD ws 1 0)) (eqb v (getD ws 2 0))
+      go false = fails (eqb n (getD ws 0 0)) (eqb k (getD ws 1 0)) (eqb v (getD ws 2 0))
 
-  module _ (more : l .body .index ≡ 1 → ⊥) where
-    answers : (b : Bool) → onRow r l ≡ b → sofar (meant r) (lineOf l) ≡ cond b (some (opened r .sats)) none
+  module _ (more : k ≡ 1 → ⊥) where
+    answers : (b : Bool) → onRow ws n k v ≡ b → sofar (meant ws) (headed n k v) ≡ cond b (some (openOf ws .sats)) none
     answers b e =
         ap
-        (λ (t : Bool). cond t (cond (leb 1 (l .body .count) && leb (l .body .count) 9) (some []) none) (onward (meant r) (lineOf l)))
-        (ne-eqb (l .body .index) 1 more)
+        (λ (t : Bool). cond t (cond (leb 1 n && leb n 9) (some []) none) (onward (meant ws) (headed n k v)))
+        (ne-eqb k 1 more)
         ∙ on-is
-        ∙ ap (λ (x : Bool). cond x (some (opened r .sats)) none) e
+        ∙ ap (λ (x : Bool). cond x (some (openOf ws .sats)) none) e
 
-    pub breaks : onRow r l ≡ false → sofar (meant r) (lineOf l) ≡ none
+    pub breaks : onRow ws n k v ≡ false → sofar (meant ws) (headed n k v) ≡ none
     breaks e = answers false e
 
-    pub goes : onRow r l ≡ true → sofar (meant r) (lineOf l) ≡ some (opened r .sats)
-    goes e = answers true e
+    -- the code's count, where the line goes on with the row's run
+    pub gone-on : onRow ws n k v ≡ true → _≡_ {A = Before} (record { runs = true; count = getD ws 3 0 }) (beforeOf (sofar (meant ws) (headed n k v)))
+    gone-on e =
+        ap (λ (c : ℕ). record { runs = true; count = c }) (sym (sats-long 0 (getD ws 3 0) ws)) ∙ ap beforeOf (sym (answers true e))
 
-  -- a run that stands has at most 32 entries, each in its cell
-  record Good : Type 0 where
-    pub few : r .count ≤ 32
-    pub cells : r .sats ≡ pad (take (r .count) (r .sats))
-    pub low : l .body .index ≤ 9
+  -- the entries before a line are few, its number is small, and the cells hold them
+  pub record Found (es : List Satellite) : Type 0 where
+    pub few : length es ≤ 32
+    pub low : k ≤ 9
+    pub read : satsFrom 0 (length es) ws ≡ es
 
-  good : length (r .sats) ≡ 36 → onRow r l ≡ true → Good
-  good room e =
-      let (e₁, f₁) = and-eq-true-iff (eqb (l .body .count) (r .n)) _ .0 e in
-      let (e₂, f₂) = and-eq-true-iff (eqb (l .body .index) (r .next)) _ .0 f₁ in
-      let (e₃, f₃) = and-eq-true-iff (eqb (l .body .view) (r .view)) _ .0 f₂ in
-      let (e₄, f₄) = and-eq-true-iff (leb 2 (r .next)) _ .0 f₃ in
-      let (e₅, f₅) = and-eq-true-iff (leb (r .next) (r .n)) _ .0 f₄ in
-      let (e₆, f₆) = and-eq-true-iff (leb (r .n) 9) _ .0 f₅ in
-      let (e₇, f₇) = and-eq-true-iff (leb (r .view) 65535) _ .0 f₆ in
-      let (e₈, f₈) = and-eq-true-iff (leb (r .count) 36) _ .0 f₇ in
-      let (e₉, f₉) = and-eq-true-iff (cellsGood 0 (r .count) (r .sats)) _ .0 f₈ in
-      let h₅ : r .next ≤ r .n = leb-true _ _ e₅ in
-      let h₆ : r .n ≤ 9 = leb-true _ _ e₆ in
-      let h₈ : r .count ≤ 36 = leb-true _ _ e₈ in
-      let h₂ : l .body .index ≡ r .next = eqb-true _ _ e₂ in
-      let h₉ : pieceCount sizeOf (space (r .view)) (take (r .count) (r .sats)) ≤ r .next - 1 = leb-true _ _ f₉ in
-      let long : length (take (r .count) (r .sats)) ≡ r .count = length-take-le (r .count) (r .sats) (omega arith) in
-      record {
-        few = omega (arith, four-each sizeOf (space (r .view)) (take (r .count) (r .sats)));
-        cells = good-pad (r .sats) (r .count) room h₈ e₉;
-        low = omega arith;
-      }
+  good : onRow ws n k v ≡ true → (getD ws 3 0 ≤ 32) × (k ≤ 9)
+  good e =
+      let (e₁, f₁) = and-eq-true-iff (eqb n (getD ws 0 0)) _ .0 e in
+      let (e₂, f₂) = and-eq-true-iff (eqb k (getD ws 1 0)) _ .0 f₁ in
+      let (e₃, f₃) = and-eq-true-iff (eqb v (getD ws 2 0)) _ .0 f₂ in
+      let (e₄, f₄) = and-eq-true-iff (eqb (length ws) 148) _ .0 f₃ in
+      let p = passes (openOf ws) .0 f₄ in
+      let h : k ≡ getD ws 1 0 = eqb-true _ _ e₂ in (
+        omega (
+          arith,
+          four-each entrySize (space (getD ws 2 0)) (openOf ws .sats),
+          sats-long 0 (getD ws 3 0) ws,
+          p .packed,
+          p .begun,
+          p .open',
+          p .high,
+        ),
+        omega (arith, p .open', p .high),
+      )
 
-  -- the code's entries, where the line goes on with the row's run
-  pub gone-on : length (r .sats) ≡ 36 → (l .body .index ≡ 1 → ⊥) → onRow r l ≡ true
-      → _≡_ {A = Before} (record { runs = true; count = r .count; sats = r .sats }) (beforeOf (sofar (meant r) (lineOf l)))
-  gone-on room more e =
-      let g = good room e in
-      let cs : List SatInfo = take (r .count) (r .sats) in
-      let long : r .count ≡ length (map satellite cs) = sym (length-map cs satellite ∙ length-take-le (r .count) (r .sats) (omega (arith, g .few))) in
-      let same : r .sats ≡ pad (map cell (map satellite cs)) = g .cells ∙ ap pad (sym (backs cs)) in
-      (λ i. record { runs = true; count = long i; sats = same i }) ∙ ap beforeOf (sym (goes more e))
-
-  -- the entries that a line finds are few, and its number is small
-  found : length (r .sats) ≡ 36 → (es : List Satellite) → sofar (meant r) (lineOf l) ≡ some es → (length es ≤ 32) × (l .body .index ≤ 9)
-  found room es e = by-number (eqb (l .body .index) 1) refl e
+  pub found : (es : List Satellite) → sofar (meant ws) (headed n k v) ≡ some es → Found es
+  found es e = by-number (eqb k 1) refl e
     where
-      by-range : (a : Bool) → l .body .index ≡ 1 → cond a (some []) none ≡ some es → (length es ≤ 32) × (l .body .index ≤ 9)
-      by-range true one q = let z : [] ≡ es = cc in (omega (arith, ap length z), omega arith)
+      by-range : (a : Bool) → k ≡ 1 → cond a (some []) none ≡ some es → Found es
+      by-range true one q =
+          let z : [] ≡ es = cc in
+          record { few = omega (arith, ap length z); low = omega arith; read = ap (λ (es : List Satellite). satsFrom 0 (length es) ws) (sym z) ∙ z }
       by-range false one q = absurd (Option·none-ne-some _ q)
 
-      by-row : (a : Bool) → onRow r l ≡ a → cond a (some (opened r .sats)) none ≡ some es → (length es ≤ 32) × (l .body .index ≤ 9)
+      by-row : (a : Bool) → onRow ws n k v ≡ a → cond a (some (openOf ws .sats)) none ≡ some es → Found es
       by-row true h q =
-          let g = good room h in
-          let cs : List SatInfo = take (r .count) (r .sats) in
-          let z : map satellite cs ≡ es = cc in
-          (omega (arith, ap length z, length-map cs satellite, length-take-le (r .count) (r .sats) (omega (arith, g .few)), g .few), g .low)
+          let (c, l) = good h in
+          let z : openOf ws .sats ≡ es = cc in
+          let long : length es ≡ getD ws 3 0 = sym (ap length z) ∙ sats-long 0 (getD ws 3 0) ws in
+          record { few = omega arith; low = l; read = ap (λ (m : ℕ). satsFrom 0 m ws) long ∙ z }
       by-row false h q = absurd (Option·none-ne-some _ q)
 
-      by-number : (a : Bool) → eqb (l .body .index) 1 ≡ a
-          → cond a (cond (leb 1 (l .body .count) && leb (l .body .count) 9) (some []) none) (onward (meant r) (lineOf l)) ≡ some es
-          → (length es ≤ 32) × (l .body .index ≤ 9)
-      by-number true h q = by-range (leb 1 (l .body .count) && leb (l .body .count) 9) (eqb-true _ _ h) q
-      by-number false h q = by-row (onRow r l) refl (sym on-is ∙ q)
+      by-number : (a : Bool) → eqb k 1 ≡ a → cond a (cond (leb 1 n && leb n 9) (some []) none) (onward (meant ws) (headed n k v)) ≡ some es → Found es
+      by-number true h q = by-range (leb 1 n && leb n 9) (eqb-true _ _ h) q
+      by-number false h q = by-row (onRow ws n k v) refl (sym on-is ∙ q)
 
--- what the code's entries before a line say: none, and the line breaks the run or starts nothing
-pub stops : (x : Option (List Satellite)) (g : Gsv Satellite) (b : Before) → b ≡ beforeOf x → b .runs ≡ false → taken x g ≡ nothing
-stops none g b e f = refl
-stops (some es) g b e f = absurd (false≢true (sym f ∙ ap (λ (b : Before). b .runs) e))
+-- a line's n, number and in-view count decide alone
+pub by-head : (r : Option (Open Satellite)) (g : Gsv Satellite) → sofar r (headed (g .n) (g .number) (g .view)) ≡ sofar r g
+by-head none g = refl
+by-head (some o) g = refl
 
--- or some, which the line is taken to
-pub record Run (r : Row) (l : GsvSentence) (b : Before) : Type 0 where
-  pub es : List Satellite
-  pub is : sofar (meant r) (lineOf l) ≡ some es
-  pub count : b .count ≡ length es
-  pub cells : b .sats ≡ pad (map cell es)
-  pub few : length es ≤ 32
-  pub low : l .body .index ≤ 9
+-- the two ways to take a line
+abbrev pub handed : Gsv Satellite → List Satellite → Out Satellite
+handed g es = record { row = none; group = some (record { n = g .n; view = g .view; sats = es ++ g .sats }) }
 
-pub runs : (r : Row) (l : GsvSentence) (b : Before) → length (r .sats) ≡ 36 → b ≡ beforeOf (sofar (meant r) (lineOf l)) → b .runs ≡ true
-    → Run r l b
-runs r l b room e t = by (sofar (meant r) (lineOf l)) refl e
-  where
-    by : (x : Option (List Satellite)) → sofar (meant r) (lineOf l) ≡ x → b ≡ beforeOf x → Run r l b
-    by none q f = absurd (false≢true (sym (ap (λ (b : Before). b .runs) f) ∙ t))
-    by (some es) q f =
-        let h = found r l room es q in
-        record {
-          es = es;
-          is = q;
-          count = ap (λ (b : Before). b .count) f;
-          cells = ap (λ (b : Before). b .sats) f;
-          few = h .0;
-          low = h .1;
-        }
+abbrev pub waited : Gsv Satellite → List Satellite → Out Satellite
+waited g es = record { row = some (record { n = g .n; next = g .number + 1; view = g .view; sats = es ++ g .sats }); group = none }
 
--- the line's entries put behind them
-module _ (r : Row) (l : GsvSentence) (b : Before) (x : Run r l b) (f : Four) (ef : f ≡ fourOf (present (l .body))) where
-  abbrev more : List Satellite
-  more = present (l .body)
+-- what a line writes and says
+module _ (ws : List ℕ) (g : Gsv Satellite) where
+  pub no-row : (length ws ≡ 148 → ⊥) → Put ws ws g NoRow
+  no-row h =
+      let e : false ≡ eqb (length ws) 148 = sym (ne-eqb (length ws) 148 h) in
+      record {
+        words = λ j. cond (e j) (written ws g (sofar (meant ws) g)) ws;
+        says = λ j. cond (e j) (told (step (meant ws) g)) NoRow;
+      }
 
-  cell-count : (es : List Satellite) → length (map cell es) ≡ length es
-  cell-count es = length-map es cell
+  module _ (long : length ws ≡ 148) where
+    pub after-is : (x : Option (List Satellite)) → sofar (meant ws) g ≡ x → rowAfter ws g ≡ written ws g x
+    after-is x e = λ j. cond (eq-eqb (length ws) 148 long j) (written ws g (e j)) ws
 
-  pub total : b .count + f .count ≡ length (x .es ++ more)
-  total = simp length-append (omega (arith, x .count, ap (λ (f : Four). f .count) ef))
+    outcome-is : (x : Option (List Satellite)) → sofar (meant ws) g ≡ x → outcomeOf ws g ≡ told (taken x g)
+    outcome-is x e = λ j. cond (eq-eqb (length ws) 148 long j) (told (taken (e j) g)) NoRow
 
-  pub all-are : paste (b .sats) (b .count) (f .sats) (f .count) ≡ pad (map cell (x .es ++ more))
-  all-are =
-      let k : f .count ≡ length (map cell more) = ap (λ (f : Four). f .count) ef ∙ sym (cell-count more) in
-      let j : b .count ≡ length (map cell (x .es)) = x .count ∙ sym (cell-count (x .es)) in
-      (λ i. paste (x .cells i) (j i) (ef i .sats) (k i))
-      ∙ added (map cell (x .es)) (map cell more) (4 - length more) (omega (arith, cell-count (x .es), x .few))
-      (omega (arith, cell-count more, at-most-four (l .body)))
-      ∙ ap pad (sym (map-append cell (x .es) more))
+    pub stops : (b : Before) → b ≡ beforeOf (sofar (meant ws) g) → b .runs ≡ false → Put ws (set ws 1 0) g Nothing
+    stops b e f = by (sofar (meant ws) g) refl e
+      where
+        by : (x : Option (List Satellite)) → sofar (meant ws) g ≡ x → b ≡ beforeOf x → Put ws (set ws 1 0) g Nothing
+        by none q p = record { words = sym (after-is none q); says = sym (outcome-is none q) }
+        by (some es) q p = absurd (false≢true (sym f ∙ ap (λ (b : Before). b .runs) p))
 
-  pub fits : (b .count ≤ 32) × (f .count ≤ 4)
-  fits = (omega (arith, x .count, x .few), omega (arith, ap (λ (f : Four). f .count) ef, at-most-four (l .body)))
+    pub record Run (b : Before) : Type 0 where
+      pub es : List Satellite
+      pub is : sofar (meant ws) g ≡ some es
+      pub count : b .count ≡ length es
+      pub few : b .count ≤ 32
+      pub low : g .number ≤ 9
 
-  taken-is : step (meant r) (lineOf l) ≡ taken (some (x .es)) (lineOf l)
-  taken-is = ap (λ (o : Option (List Satellite)). taken o (lineOf l)) (x .is)
+    pub runs : (b : Before) → b ≡ beforeOf (sofar (meant ws) g) → b .runs ≡ true → Run b
+    runs b e t = by (sofar (meant ws) g) refl e
+      where
+        by : (x : Option (List Satellite)) → sofar (meant ws) g ≡ x → b ≡ beforeOf x → Run b
+        by none q f = absurd (false≢true (sym (ap (λ (b : Before). b .runs) f) ∙ t))
+        by (some es) q f =
+            let h = found ws (g .n) (g .number) (g .view) es (by-head (meant ws) g ∙ q) in
+            let c : b .count ≡ length es = ap (λ (b : Before). b .count) f in
+            record { es = es; is = q; count = c; few = omega (arith, h .few); low = h .low }
 
-  -- the last line of a run hands it out
-  pub hands : {cs : List SatInfo} {e : Row} → cs ≡ paste (b .sats) (b .count) (f .sats) (f .count) → e ≡ emptyRow
-      → l .body .index ≡ l .body .count
-      → _≡_ {A = Outcome}
-      (record { row = e; handed = true; group = record { n = l .body .count; view = l .body .view; count = b .count + f .count; sats = cs } })
-      (putOf (step (meant r) (lineOf l)))
-  hands {cs} {e} ec ee last =
-      rw (ee, ec ∙ all-are, total, taken-is) (simp (eq-eqb (l .body .index) (l .body .count) last))
+    module _ (b : Before) (x : Run b) (m : List ℕ) (t : ℕ) (s : Stored ws m (b .count) (g .sats) t) where
+      words-are : (k : ℕ) → k ≡ nextOf g → set (set (set (set m 0 (g .n)) 1 k) 2 (g .view)) 3 t ≡ rowAfter ws g
+      words-are k e =
+          let mp : m ≡ sets ws (4 + length (x .es) * 4) (flat (g .sats)) = s .words ∙ (λ j. sets ws (4 + x .count j * 4) (flat (g .sats))) in
+          let tp : t ≡ length (x .es) + length (g .sats) = s .count ∙ (λ j. x .count j + length (g .sats)) in
+          (λ j. set (set (set (set (mp j) 0 (g .n)) 1 (e j)) 2 (g .view)) 3 (tp j)) ∙ sym (after-is (some (x .es)) (x .is))
 
-  -- another is waited for
-  pub waits : {cs : List SatInfo} {g : Group} → cs ≡ paste (b .sats) (b .count) (f .sats) (f .count) → g ≡ noGroup
-      → (l .body .index ≡ l .body .count → ⊥)
-      → _≡_ {A = Outcome}
-      (record {
-        row = record { n = l .body .count; next = l .body .index + 1; view = l .body .view; count = b .count + f .count; sats = cs };
-        handed = false;
-        group = g;
-      })
-      (putOf (step (meant r) (lineOf l)))
-  waits {cs} {g} ec eg last =
-      rw (eg, ec ∙ all-are, total, taken-is) (simp (ne-eqb (l .body .index) (l .body .count) last))
+      pub completes : g .number ≡ g .n → Put ws (set (set (set (set m 0 (g .n)) 1 0) 2 (g .view)) 3 t) g Complete
+      completes last =
+          let e : eqb (g .number) (g .n) ≡ true = eq-eqb (g .number) (g .n) last in
+          record {
+            words = words-are 0 (sym (λ j. cond (e j) 0 (g .number + 1)));
+            says = sym (outcome-is (some (x .es)) (x .is) ∙ (λ j. told (cond (e j) (handed g (x .es)) (waited g (x .es)))));
+          }
 
-  pub keeps : {cs : List SatInfo} → cs ≡ paste (b .sats) (b .count) (f .sats) (f .count) → (l .body .index ≡ l .body .count → ⊥)
-      → _≡_ {A = Kept}
-      (record {
-        row = record { n = l .body .count; next = l .body .index + 1; view = l .body .view; count = b .count + f .count; sats = cs };
-        handed = false;
-      })
-      (keptOf (step (meant r) (lineOf l)))
-  keeps {cs} ec last = rw (ec ∙ all-are, total, taken-is) (simp (ne-eqb (l .body .index) (l .body .count) last))
-
-pub keeps-none : (r : Row) (l : GsvSentence) (b : Before) → Run r l b → {e : Row} → e ≡ emptyRow → l .body .index ≡ l .body .count
-    → _≡_ {A = Kept} (record { row = e; handed = true }) (keptOf (step (meant r) (lineOf l)))
-keeps-none r l b x ee last =
-    rw (ee, ap (λ (o : Option (List Satellite)). taken o (lineOf l)) (x .is)) (simp (eq-eqb (l .body .index) (l .body .count) last))
+      pub waits : (g .number ≡ g .n → ⊥) → Put ws (set (set (set (set m 0 (g .n)) 1 (g .number + 1)) 2 (g .view)) 3 t) g Waiting
+      waits more =
+          let e : eqb (g .number) (g .n) ≡ false = ne-eqb (g .number) (g .n) more in
+          record {
+            words = words-are (g .number + 1) (sym (λ j. cond (e j) 0 (g .number + 1)));
+            says = sym (outcome-is (some (x .es)) (x .is) ∙ (λ j. told (cond (e j) (handed g (x .es)) (waited g (x .es)))));
+          }

@@ -1,152 +1,198 @@
--- From a fresh gatherer, the rows hold the theory's table: so a line hands out a group exactly where the definition says. Assumes nothing.
-use Prim.Native.Nat.{ℕ, suc, _+_, _-_, _≤_, _<_}
+-- THE TABLE after an accepted line is what the theory's table is after it, and the words of a row that is complete are its group.
+-- Assumes nothing.
+use Prim.Native.Nat.{ℕ, suc, _+_, _-_, _*_, _≤_, _<_}
 use native.Mathlib.Omega.{arith}
 use mathlib.Core.Path.{_≡_, refl, ap, sym, _∙_}
-use mathlib.Core.List.{List, [], _∷_, map}
+use mathlib.Core.List.{List, [], _∷_, _++_, append-assoc}
 use mathlib.Core.Bool.{Bool, true, false, cond}
-use mathlib.Core.Option.{Option, some}
-use borrow.Author.Tests.{eq-eqb, ne-eqb}
-use lib.Dec.{eqb}
-use lib.ListN.{length, take, getD, set, replicate, length-map}
-use lib.Seq.{take-append-seam}
-use Rattle.groups.specs.Log.{Line, gsv, Group}
-use Rattle.groups.specs.Step.{Open, Out, Table, step, next, after}
+use mathlib.Core.Option.{Option, none, some}
+use borrow.Author.Tests.{eq-eqb, ne-eqb, eqb-true, eqb-false, ltb-true, ltb-false}
+use lib.Dec.{eqb, ltb}
+use lib.ListN.{length, getD, take, drop, replicate, length-set, length-take, length-drop}
+use lib.Seq.{sets, sets-eq, length-sets, ext-getD, getD-take, getD-drop, drop-drop}
+use Rattle.groups.specs.Log.{Gsv, Line, gsv, Group}
 use Rattle.groups.specs.Left.{All}
+use Rattle.groups.specs.Step.{Table, sofar, step, next, fresh, after}
 use Rattle.gsv.specs.Gsv.{Satellite}
-use Rattle.gsv.specs.Answer.{satellite}
-use Rattle.gsv.specs.declared.SatInfo.{SatInfo}
+use Rattle.gsv.specs.Talker.{System, beidou, galileo, gps, glonass, navic, qzss}
+use Rattle.short.specs.Room.{Written}
+use Rattle.sentence.specs.Sentence.{GsvSentence, answer, isGsv}
 use Rattle.rows.specs.Key.{keyOf, rowCount}
 use Rattle.rows.specs.Line.{lineOf}
-use Rattle.rows.specs.Leave.{Stands}
-use Rattle.rows.proofs.Row.{stands-step}
-use Rattle.sentence.specs.Sentence.{GsvSentence, answer as read, isGsv}
-use Rattle.short.specs.Room.{Written}
-use Rattle.gather.specs.Cells.{cell, noSat, pad}
-use Rattle.gather.specs.Put.{meant, rowOf, isSome, groupOf, emptyRow, putOf}
-use Rattle.gather.specs.Table.{handedBy, stored, gatheredOf}
+use Rattle.gather.specs.Words.{groupOf, meant, flat}
+use Rattle.gather.specs.Put.{nextOf, written, rowAfter, told, outcomeOf, Put}
+use Rattle.gather.specs.Table.{tableWords, rowOf, freshTable, tableOf, tableAfter, saidBy, Gathers}
 use Rattle.gather.specs.Run.{run}
-use Rattle.gather.specs.declared.row.Row.{Row}
-use Rattle.gather.specs.declared.row.Group.{Group as Cells}
 use Rattle.gather.specs.declared.line.Outcome.{Outcome}
-use Rattle.gather.specs.declared.table.Gatherer.{Gatherer}
-use Rattle.gather.specs.declared.table.Gathered.{Gathered}
-use Rattle.gather.proofs.Keys.{key-below}
-use Rattle.gather.proofs.Meaning.{round}
-use Rattle.gather.proofs.Back.{forths}
+use Rattle.gather.specs.declared.line.Outcome.the-variants.{NoRow}
+use Rattle.gather.proofs.Cells.{below, above, inside}
+use Rattle.gather.proofs.Decode.{none-at, put-meaning, put-group}
 
--- n rows of any kind, from i on
-module _ {X : Type 0} where
-  abbrev pub rows : ℕ → ℕ → (ℕ → X) → List X
-  rows ℕ.zero i f = []
-  rows (suc n) i f = f i ∷ rows n (suc i) f
+pub key-below : (s : System) → keyOf s < rowCount
+key-below beidou = omega arith
+key-below galileo = omega arith
+key-below gps = omega arith
+key-below glonass = omega arith
+key-below navic = omega arith
+key-below qzss = omega arith
 
-  pub rows-at : (n i k : ℕ) (f : ℕ → X) (d : X) → k < n → getD (rows n i f) k d ≡ f (i + k)
-  rows-at ℕ.zero i k f d h = absurd (omega arith)
-  rows-at (suc n) i ℕ.zero f d h = let z : i ≡ i + 0 = omega arith in ap f z
-  rows-at (suc n) i (suc k) f d h = let z : suc i + k ≡ i + suc k = omega arith in rows-at n (suc i) k f d (omega arith) ∙ ap f z
+-- a line leaves as many words as there were
+pub after-long : (ws : List ℕ) (g : Gsv Satellite) → length (rowAfter ws g) ≡ length ws
+after-long ws g = by (eqb (length ws) 148) (sofar (meant ws) g)
+  where
+    by : (b : Bool) (x : Option (List Satellite)) → length (cond b (written ws g x) ws) ≡ length ws
+    by true none = length-set ws 1 0
+    by true (some es) =
+        length-sets (sets ws (4 + length es * 4) (flat (g .sats))) 0 (g .n ∷ nextOf g ∷ g .view ∷ (length es + length (g .sats)) ∷ [])
+        ∙ length-sets ws (4 + length es * 4) (flat (g .sats))
+    by false x = refl
 
-  pub rows-same : (n i : ℕ) (f g : ℕ → X) → ((k : ℕ) → i ≤ k → f k ≡ g k) → rows n i f ≡ rows n i g
-  rows-same ℕ.zero i f g e = refl
-  rows-same (suc n) i f g e = λ j. e i (omega arith) j ∷ rows-same n (suc i) f g (λ k h. e k (omega arith)) j
-
-  pub rows-set : (n i k m : ℕ) (f : ℕ → X) (r : X) → k < n → m ≡ i + k → set (rows n i f) k r ≡ rows n i (λ κ. cond (eqb m κ) r (f κ))
-  rows-set ℕ.zero i k m f r h e = absurd (omega arith)
-  rows-set (suc n) i ℕ.zero m f r h e =
-      λ j.
-      sym (ap (λ (b : Bool). cond b r (f i)) (eq-eqb m i (omega arith))) j
-      ∷ rows-same n (suc i) f (λ κ. cond (eqb m κ) r (f κ)) (λ k h'. sym (ap (λ (b : Bool). cond b r (f k)) (ne-eqb m k (λ q. omega arith)))) j
-  rows-set (suc n) i (suc k) m f r h e =
-      λ j.
-      sym (ap (λ (b : Bool). cond b r (f i)) (ne-eqb m i (λ q. omega arith))) j ∷ rows-set n (suc i) k m f r (omega arith) (omega arith) j
-
--- what a map makes of each row of a table
-module _ {X : Type 0} (f : Option (Open Satellite) → X) where
-  abbrev pub eachRow : Table Satellite → List X
-  eachRow t = rows rowCount 0 (λ κ. f (t κ))
-
-  pub each-at : (t : Table Satellite) (κ : ℕ) (d : X) → κ < rowCount → getD (eachRow t) κ d ≡ f (t κ)
-  each-at t κ d h = let z : 0 + κ ≡ κ = omega arith in rows-at rowCount 0 κ (λ κ. f (t κ)) d h ∙ ap (λ (k : ℕ). f (t k)) z
-
-  picked : (b : Bool) (x y : Option (Open Satellite)) → cond b (f x) (f y) ≡ f (cond b x y)
-  picked true x y = refl
-  picked false x y = refl
-
-  -- a line changes what is made of its own row, and of no other
-  pub each-next : (t : Table Satellite) (l : GsvSentence)
-      → set (eachRow t) (keyOf (l .system)) (f (step (t (keyOf (l .system))) (lineOf l) .row)) ≡ eachRow (next t (gsv (lineOf l)))
-  each-next t l =
-      let k = keyOf (l .system) in
-      let x = step (t k) (lineOf l) .row in
-      let z : k ≡ 0 + k = omega arith in
-      rows-set rowCount 0 k k (λ κ. f (t κ)) (f x) (key-below (l .system)) z
-      ∙ rows-same rowCount 0 (λ κ. cond (eqb k κ) (f x) (f (t κ))) (λ κ. f (next t (gsv (lineOf l)) κ)) (λ κ h. picked (eqb k κ) x (t κ))
-
--- the gatherer that holds a table
-abbrev pub held : Table Satellite → Gatherer
-held t = record { rows = eachRow rowOf t }
-
--- a table that lines can leave
-abbrev pub AllStand : Table Satellite → Type 0
-AllStand t = (κ : ℕ) → Stands (t κ)
-
--- one line: the gatherer holds the next table, and hands out what the step hands out
-pub held-next : (t : Table Satellite) (l : GsvSentence) → AllStand t
-    → gatheredOf (held t) l
-    ≡ record {
-      gatherer = held (next t (gsv (lineOf l)));
-      handed = handedBy (l .system) (isSome (step (t (keyOf (l .system))) (lineOf l) .group));
-      group = groupOf (step (t (keyOf (l .system))) (lineOf l) .group);
+-- the code's part of the table
+pub no-table : (t : List ℕ) (g : Gsv Satellite) → (length t ≡ tableWords → ⊥) → Gathers t t g NoRow
+no-table t g h =
+    let e : false ≡ eqb (length t) tableWords = sym (ne-eqb (length t) tableWords h) in
+    record {
+      words = λ j. cond (e j) (sets t (g .key * 148) (rowAfter (rowOf t (g .key)) g)) t;
+      says = λ j. cond (e j) (outcomeOf (rowOf t (g .key)) g) NoRow;
     }
-held-next t l s =
-    ap (λ (r : Row). stored (held t) (l .system) (answer r)) (each-at rowOf t k emptyRow (key-below (l .system)))
-    ∙ ap (λ (x : Option (Open Satellite)). stored (held t) (l .system) (putOf (step x (lineOf l)))) (round (t k) (s k))
-    ∙ ap (λ (rs : List Row). record { gatherer = record { rows = rs }; handed = handedBy (l .system) (isSome (o .group)); group = groupOf (o .group) })
-    (each-next rowOf t l)
-  where
-    k : ℕ
-    k = keyOf (l .system)
 
-    o : Out Satellite
-    o = step (t k) (lineOf l)
+row-long : (t : List ℕ) (κ : ℕ) → κ * 148 + 148 ≤ length t → length (rowOf t κ) ≡ 148
+row-long t κ h = simp (length-take, length-drop) (omega arith)
 
-    answer : Row → Outcome
-    answer r = putOf (step (meant r) (lineOf l))
+module _ (t : List ℕ) (g : Gsv Satellite) (key : ℕ) (x : List ℕ) (r : Outcome) where
+  pub gathers : key ≡ g .key → g .key < rowCount → length t ≡ tableWords → Put (take (key * 148 + 148 - key * 148) (drop (key * 148) t)) x g r
+      → Gathers t (take (key * 148) t ++ (x ++ drop (key * 148 + 148 - key * 148) (drop (key * 148) t))) g r
+  gathers ek h long p =
+      let z : key * 148 + 148 - key * 148 ≡ 148 = omega arith in
+      let same : rowAfter (take (key * 148 + 148 - key * 148) (drop (key * 148) t)) g ≡ rowAfter (rowOf t (g .key)) g =
+      λ j. rowAfter (take (z j) (drop (ek j * 148) t)) g
+      in
+      let xs : x ≡ rowAfter (rowOf t (g .key)) g = p .words ∙ same in
+      let xl : length x ≡ 148 = ap length xs ∙ after-long (rowOf t (g .key)) g ∙ row-long t (g .key) (omega arith) in
+      let y : key * 148 + (key * 148 + 148 - key * 148) ≡ key * 148 + length x = omega arith in
+      let e : eqb (length t) tableWords ≡ true = eq-eqb (length t) tableWords long in
+      record {
+        words =
+            sym (append-assoc (take (key * 148) t) x (drop (key * 148 + 148 - key * 148) (drop (key * 148) t)))
+            ∙ ap (λ (l : List ℕ). take (key * 148) t ++ x ++ l) (drop-drop (key * 148 + 148 - key * 148) (key * 148) t ∙ ap (λ (n : ℕ). drop n t) y)
+            ∙ sym (sets-eq x t (key * 148) (omega arith))
+            ∙ (λ j. sets t (ek j * 148) (xs j))
+            ∙ sym (λ j. cond (e j) (sets t (g .key * 148) (rowAfter (rowOf t (g .key)) g)) t);
+        says =
+            p .says
+            ∙ (λ j. outcomeOf (take (z j) (drop (ek j * 148) t)) g)
+            ∙ sym (λ j. cond (e j) (outcomeOf (rowOf t (g .key)) g) NoRow);
+      }
 
-pub stand-next : (t : Table Satellite) (k : List ℕ) (l : GsvSentence) → AllStand t → read k ≡ isGsv l → AllStand (next t (gsv (lineOf l)))
-stand-next t k l s e κ = go (eqb (keyOf (l .system)) κ)
-  where
-    go : (b : Bool) → Stands (cond b (step (t (keyOf (l .system))) (lineOf l) .row) (t κ))
-    go true = stands-step (t (keyOf (l .system))) k l e (s (keyOf (l .system)))
-    go false = s κ
+-- a row that is put is read, and the others stand
+module _ (t : List ℕ) (κ : ℕ) (ws : List ℕ) (h : length ws ≡ 148) (l : κ * 148 + 148 ≤ length t) where
+  own-row : rowOf (sets t (κ * 148) ws) κ ≡ ws
+  own-row =
+      let n : length (rowOf (sets t (κ * 148) ws) κ) ≡ 148 = row-long (sets t (κ * 148) ws) κ (omega (arith, length-sets t (κ * 148) ws)) in
+      ext-getD 0 (rowOf (sets t (κ * 148) ws) κ) ws (n ∙ sym h)
+      (λ i q.
+      getD-take 148 (drop (κ * 148) (sets t (κ * 148) ws)) i 0 (omega arith)
+      ∙ getD-drop (κ * 148) (sets t (κ * 148) ws) i 0
+      ∙ inside ws t (κ * 148) i (omega arith) (omega arith))
 
--- all lines, from a gatherer that holds such a table
+  other-row : (ι : ℕ) → (κ ≡ ι → ⊥) → rowOf (sets t (κ * 148) ws) ι ≡ rowOf t ι
+  other-row ι ne =
+      let n : length (sets t (κ * 148) ws) ≡ length t = length-sets t (κ * 148) ws in
+      ext-getD 0 (rowOf (sets t (κ * 148) ws) ι) (rowOf t ι) (simp (length-take, length-drop) (omega arith))
+      (λ i q.
+      let k : i < 148 = omega (arith, length-take 148 (drop (ι * 148) (sets t (κ * 148) ws))) in
+      getD-take 148 (drop (ι * 148) (sets t (κ * 148) ws)) i 0 k
+      ∙ getD-drop (ι * 148) (sets t (κ * 148) ws) i 0
+      ∙ away i k
+      ∙ sym (getD-take 148 (drop (ι * 148) t) i 0 k ∙ getD-drop (ι * 148) t i 0))
+    where
+      strict : (b : Bool) → eqb κ ι ≡ b → κ ≤ ι → κ < ι
+      strict true q f = absurd (ne (eqb-true κ ι q))
+      strict false q f = let n : κ ≡ ι → ⊥ = eqb-false κ ι q in omega (arith, n)
+
+      by : (i : ℕ) → i < 148 → (b : Bool) → ltb ι κ ≡ b → getD (sets t (κ * 148) ws) (ι * 148 + i) 0 ≡ getD t (ι * 148 + i) 0
+      by i k true e =
+          let f : ι < κ = ltb-true ι κ e in
+          below ws t (κ * 148) (ι * 148 + i) (omega arith)
+      by i k false e =
+          let f : κ < ι = strict (eqb κ ι) refl (ltb-false ι κ e) in
+          above ws t (κ * 148) (ι * 148 + i) (omega arith)
+
+      away : (i : ℕ) → i < 148 → getD (sets t (κ * 148) ws) (ι * 148 + i) 0 ≡ getD t (ι * 148 + i) 0
+      away i k = by i k (ltb ι κ) refl
+
+-- an accepted line
+module _ (t l : List ℕ) (h : GsvSentence) (read : answer l ≡ isGsv h) (long : length t ≡ tableWords) where
+  abbrev g : Gsv Satellite
+  g = lineOf h
+
+  fits : g .key * 148 + 148 ≤ length t
+  fits = omega (arith, key-below (h .system))
+
+  row : length (rowOf t (g .key)) ≡ 148
+  row = row-long t (g .key) fits
+
+  is : tableAfter t g ≡ sets t (g .key * 148) (rowAfter (rowOf t (g .key)) g)
+  is = λ j. cond (eq-eqb (length t) tableWords long j) (sets t (g .key * 148) (rowAfter (rowOf t (g .key)) g)) t
+
+  mine : rowOf (tableAfter t g) (g .key) ≡ rowAfter (rowOf t (g .key)) g
+  mine =
+      ap (λ (l : List ℕ). rowOf l (g .key)) is
+      ∙ own-row t (g .key) (rowAfter (rowOf t (g .key)) g) (after-long (rowOf t (g .key)) g ∙ row) fits
+
+  pub table-meaning : tableOf (tableAfter t g) ≡ next (tableOf t) (gsv g)
+  table-meaning = λ j κ. at κ j
+    where
+      at : (κ : ℕ) → tableOf (tableAfter t g) κ ≡ next (tableOf t) (gsv g) κ
+      at κ = by (eqb (g .key) κ) refl
+        where
+          by : (b : Bool) → eqb (g .key) κ ≡ b → tableOf (tableAfter t g) κ ≡ cond b (step (tableOf t (g .key)) g .row) (tableOf t κ)
+          by true e =
+              let q : g .key ≡ κ = eqb-true (g .key) κ e in
+              ap (tableOf (tableAfter t g)) (sym q) ∙ ap meant mine ∙ put-meaning (rowOf t (g .key)) l h read row
+          by false e =
+              ap (λ (l : List ℕ). meant (rowOf l κ)) is
+              ∙ ap meant (other-row t (g .key) (rowAfter (rowOf t (g .key)) g) (after-long (rowOf t (g .key)) g ∙ row) fits κ (eqb-false (g .key) κ e))
+
+  -- what is said is what the theory hands out
+  pub table-says : saidBy t g ≡ told (step (tableOf t (g .key)) g)
+  table-says =
+      λ j. cond (eq-eqb (length t) tableWords long j) (cond (eq-eqb (length (rowOf t (g .key))) 148 row j) (told (step (tableOf t (g .key)) g)) NoRow) NoRow
+
+  pub table-group : (p : Group Satellite) → step (tableOf t (g .key)) g .group ≡ some p → groupOf (rowOf (tableAfter t g) (g .key)) ≡ p
+  table-group p e = ap groupOf mine ∙ put-group (rowOf t (g .key)) l h read row p e
+
+  pub same-words : length (tableAfter t g) ≡ tableWords
+  same-words = ap length is ∙ length-sets t (g .key * 148) (rowAfter (rowOf t (g .key)) g) ∙ long
+
+-- lines one after the other
 abbrev pub logOf : List GsvSentence → List (Line Satellite)
 logOf [] = []
-logOf (l ∷ ls) = gsv (lineOf l) ∷ logOf ls
+logOf (h ∷ hs) = gsv (lineOf h) ∷ logOf hs
 
-pub stand-after : (t : Table Satellite) (ls : List GsvSentence) → AllStand t → All Written ls → AllStand (after t (logOf ls))
-stand-after t [] s w κ = s κ
-stand-after t (l ∷ ls) s w κ = stand-after (next t (gsv (lineOf l))) ls (stand-next t (w .0 .line) l s (w .0 .accepted)) (w .1) κ
+pub run-meaning : (t : List ℕ) (hs : List GsvSentence) → All Written hs → length t ≡ tableWords → tableOf (run t hs) ≡ after (tableOf t) (logOf hs)
+run-meaning t [] w long = refl
+run-meaning t (h ∷ hs) w long =
+    run-meaning (tableAfter t (lineOf h)) hs (w .1) (same-words t (w .0 .line) h (w .0 .accepted) long)
+    ∙ ap (λ (x : Table Satellite). after x (logOf hs)) (table-meaning t (w .0 .line) h (w .0 .accepted) long)
 
-pub runs-held : (t : Table Satellite) (ls : List GsvSentence) → AllStand t → All Written ls → run (held t) ls ≡ held (after t (logOf ls))
-runs-held t [] s w = refl
-runs-held t (l ∷ ls) s w =
-    ap (λ (g : Gathered). run (g .gatherer) ls) (held-next t l s) ∙ runs-held (next t (gsv (lineOf l))) ls (stand-next t (w .0 .line) l s (w .0 .accepted)) (w .1)
-
--- a group's cells give its entries back
-pub group-same : (p q : Group Satellite) → groupOf (some p) ≡ groupOf (some q) → p ≡ q
-group-same p q e =
-    λ i.
-    record {
-      n = e i .n;
-      view = e i .view;
-      sats = (back p ∙ ap (λ (g : Cells). map satellite (take (g .count) (g .sats))) e ∙ sym (back q)) i;
-    }
+-- a table before any line means that every row is empty
+pub zero-fresh : tableOf freshTable ≡ fresh
+zero-fresh = λ j κ. at κ j
   where
-    back : (p : Group Satellite) → p .sats ≡ map satellite (take (length (p .sats)) (pad (map cell (p .sats))))
-    back p =
-        let cs : List SatInfo = map cell (p .sats) in
-        sym
-        (ap (λ (k : ℕ). map satellite (take k (pad cs))) (sym (length-map (p .sats) cell))
-        ∙ ap (map satellite) (take-append-seam cs (replicate (36 - length cs) noSat))
-        ∙ forths (p .sats))
+    zeros : (n i : ℕ) → _≡_ {A = ℕ} (getD (replicate n 0) i 0) 0
+    zeros ℕ.zero i = refl
+    zeros (suc n) ℕ.zero = refl
+    zeros (suc n) (suc i) = zeros n i
+
+    at : (κ : ℕ) → tableOf freshTable κ ≡ none
+    at κ =
+        none-at (rowOf freshTable κ)
+        (getD-take 148 (drop (κ * 148) freshTable) 1 0 (omega arith) ∙ getD-drop (κ * 148) freshTable 1 0 ∙ zeros tableWords (κ * 148 + 1))
+
+pub table-long : (t : List ℕ) (g : Gsv Satellite) → length (tableAfter t g) ≡ length t
+table-long t g = by (eqb (length t) tableWords)
+  where
+    by : (b : Bool) → length (cond b (sets t (g .key * 148) (rowAfter (rowOf t (g .key)) g)) t) ≡ length t
+    by true = length-sets t (g .key * 148) (rowAfter (rowOf t (g .key)) g)
+    by false = refl

@@ -1,6 +1,5 @@
-pub mod Cells
-pub mod Lent
-pub mod Pile
+pub mod Words
 pub mod Put
 pub mod Table
 pub mod Run
+pub mod Pile

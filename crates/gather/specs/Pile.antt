@@ -7,8 +7,8 @@ use lib.Dec.{leb, ltb}
 use lib.ListN.{length}
 use Rattle.short.specs.Digits.{digitsOf}
 use Rattle.short.specs.Texts.{optText}
-use Rattle.gsv.specs.declared.SatInfo.{SatInfo}
-use Rattle.gather.specs.Lent.{sizeOf}
+use Rattle.gsv.specs.Gsv.{Satellite}
+use Rattle.rows.specs.Leave.{entrySize}
 use Rattle.gather.specs.declared.lent.Pile.{Pile}
 
 pub record Digits (x r : ℕ) : Type 0 where
@@ -19,8 +19,8 @@ pub record OptDigits (o : Option ℕ) (r : ℕ) : Type 0 where
   pub count : r ≡ length (optText o)
   pub few : r ≤ 10
 
-pub record Sized (s : SatInfo) (r : ℕ) : Type 0 where
-  pub bytes : r ≡ sizeOf s
+pub record Sized (s : Satellite) (r : ℕ) : Type 0 where
+  pub bytes : r ≡ entrySize s
   pub few : r ≤ 44
 
 -- greedy: an entry of w bytes goes to the line at hand if there is room, or else to a new one

@@ -1,62 +1,62 @@
--- What a line does to a lent row, whatever the row holds.
-use mathlib.Core.List.{List, [], map}
+-- What an accepted GSV line does to the words of its row, to the last word, and what it says.
+use Prim.Native.Nat.{ℕ, _+_, _*_}
+use mathlib.Core.Path.{_≡_}
+use mathlib.Core.List.{List, [], _∷_}
 use mathlib.Core.Bool.{Bool, true, false, _&&_, cond}
 use mathlib.Core.Option.{Option, none, some}
 use lib.Dec.{eqb}
-use lib.ListN.{length, take}
-use Rattle.groups.specs.Log.{Group as Gathered}
-use Rattle.groups.specs.Step.{Open, Out}
+use lib.ListN.{length, getD, set}
+use lib.Seq.{sets}
+use Rattle.groups.specs.Log.{Gsv, Group}
+use Rattle.groups.specs.Step.{Open, Out, sofar, step}
 use Rattle.gsv.specs.Gsv.{Satellite}
-use Rattle.gsv.specs.Answer.{satellite}
-use Rattle.sentence.specs.Sentence.{GsvSentence}
-use Rattle.gather.specs.Cells.{cell, pad}
-use Rattle.gather.specs.Lent.{stands}
-use Rattle.gather.specs.declared.row.Row.{Row}
-use Rattle.gather.specs.declared.row.Group.{Group}
+use Rattle.gather.specs.Words.{rowWords, flat, meant, stands}
 use Rattle.gather.specs.declared.line.Before.{Before}
 use Rattle.gather.specs.declared.line.Outcome.{Outcome}
-use Rattle.gather.specs.declared.line.Kept.{Kept}
+use Rattle.gather.specs.declared.line.Outcome.the-variants.{NoRow, Nothing, Waiting, Complete}
 
--- the run that a row would hold
-abbrev pub opened : Row → Open Satellite
-opened r = record { n = r .n; next = r .next; view = r .view; sats = map satellite (take (r .count) (r .sats)) }
+-- the number that is waited for; none behind the last
+abbrev pub nextOf : Gsv Satellite → ℕ
+nextOf g = cond (eqb (g .number) (g .n)) 0 (g .number + 1)
 
--- what the row means: "a row of a lent gatherer that no run of lines could leave counts as empty"
-abbrev pub meant : Row → Option (Open Satellite)
-meant r = cond (stands r) (some (opened r)) none
+-- a line that breaks a run sets `next` to 0, and no other word; one that starts or goes on writes its own cells and the head
+abbrev pub written : List ℕ → Gsv Satellite → Option (List Satellite) → List ℕ
+written ws g none = set ws 1 0
+written ws g (some es) =
+    sets (sets ws (4 + length es * 4) (flat (g .sats))) 0
+    (g .n ∷ nextOf g ∷ g .view ∷ (length es + length (g .sats)) ∷ [])
 
-abbrev pub emptyRow : Row
-emptyRow = record { n = 0; next = 0; view = 0; count = 0; sats = pad [] }
+-- words that are no row stand unchanged
+abbrev pub rowAfter : List ℕ → Gsv Satellite → List ℕ
+rowAfter ws g = cond (eqb (length ws) rowWords) (written ws g (sofar (meant ws) g)) ws
 
--- the row that is written for a run
-abbrev pub rowOf : Option (Open Satellite) → Row
-rowOf none = emptyRow
-rowOf (some o) = record { n = o .n; next = o .next; view = o .view; count = length (o .sats); sats = pad (map cell (o .sats)) }
+abbrev pub toldBy : Option (Group Satellite) → Option (Open Satellite) → Outcome
+toldBy (some p) r = Complete
+toldBy none (some o) = Waiting
+toldBy none none = Nothing
 
-abbrev pub noGroup : Group
-noGroup = record { n = 0; view = 0; count = 0; sats = pad [] }
+abbrev pub told : Out Satellite → Outcome
+told o = toldBy (o .group) (o .row)
 
-abbrev pub isSome : Option (Gathered Satellite) → Bool
-isSome none = false
-isSome (some p) = true
+abbrev pub outcomeOf : List ℕ → Gsv Satellite → Outcome
+outcomeOf ws g = cond (eqb (length ws) rowWords) (told (step (meant ws) g)) NoRow
 
-abbrev pub groupOf : Option (Gathered Satellite) → Group
-groupOf none = noGroup
-groupOf (some p) = record { n = p .n; view = p .view; count = length (p .sats); sats = pad (map cell (p .sats)) }
+pub record Put (ws ws′ : List ℕ) (g : Gsv Satellite) (r : Outcome) : Type 0 where
+  pub words : ws′ ≡ rowAfter ws g
+  pub says : r ≡ outcomeOf ws g
 
-abbrev pub putOf : Out Satellite → Outcome
-putOf o = record { row = rowOf (o .row); handed = isSome (o .group); group = groupOf (o .group) }
+-- for the code: a line's n, number and in-view count decide alone what it goes on with
+abbrev pub headed : ℕ → ℕ → ℕ → Gsv Satellite
+headed n k v = record { key = 0; n = n; number = k; view = v; sats = [] }
 
--- the same without the group's cells
-abbrev pub keptOf : Out Satellite → Kept
-keptOf o = record { row = rowOf (o .row); handed = isSome (o .group) }
+abbrev pub onRow : List ℕ → ℕ → ℕ → ℕ → Bool
+onRow ws n k v = eqb n (getD ws 0 0) && (eqb k (getD ws 1 0) && (eqb v (getD ws 2 0) && stands ws))
 
--- for the code: the line goes on with the run that stands in the row
-abbrev pub onRow : Row → GsvSentence → Bool
-onRow r s =
-    eqb (s .body .count) (r .n) && (eqb (s .body .index) (r .next) && (eqb (s .body .view) (r .view) && stands r))
-
--- and the entries before a line
 abbrev pub beforeOf : Option (List Satellite) → Before
-beforeOf none = record { runs = false; count = 0; sats = pad [] }
-beforeOf (some es) = record { runs = true; count = length es; sats = pad (map cell es) }
+beforeOf none = record { runs = false; count = 0 }
+beforeOf (some es) = record { runs = true; count = length es }
+
+-- the words of k entries and some more
+pub record Stored (ws ws′ : List ℕ) (k : ℕ) (es : List Satellite) (r : ℕ) : Type 0 where
+  pub words : ws′ ≡ sets ws (4 + k * 4) (flat es)
+  pub count : r ≡ k + length es

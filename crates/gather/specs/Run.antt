@@ -1,24 +1,22 @@
--- A gatherer after some accepted GSV lines, and the rows that such lines leave.
+-- A table after some accepted GSV lines, and what such lines leave in a row.
 use Prim.Native.Nat.{ℕ}
 use mathlib.Core.Path.{_≡_}
 use mathlib.Core.List.{List, [], _∷_}
-use lib.ListN.{getD}
+use mathlib.Core.Option.{some}
 use Rattle.groups.specs.Left.{All}
 use Rattle.sentence.specs.Sentence.{GsvSentence}
 use Rattle.short.specs.Room.{Written}
-use Rattle.gather.specs.Put.{emptyRow}
-use Rattle.gather.specs.Table.{freshGatherer, gatheredOf}
-use Rattle.gather.specs.declared.row.Row.{Row}
-use Rattle.gather.specs.declared.table.Gatherer.{Gatherer}
+use Rattle.rows.specs.Line.{lineOf}
+use Rattle.gather.specs.Words.{openOf}
+use Rattle.gather.specs.Table.{freshTable, tableOf, tableAfter}
 
 -- line by line
-abbrev pub run : Gatherer → List GsvSentence → Gatherer
-run g [] = g
-run g (s ∷ ss) = run (gatheredOf g s .gatherer) ss
+abbrev pub run : List ℕ → List GsvSentence → List ℕ
+run t [] = t
+run t (h ∷ hs) = run (tableAfter t (lineOf h)) hs
 
--- AS THE SCOPE SAYS IT: a run of accepted lines leaves this row at κ of a fresh gatherer, and it is not the empty one
-pub record LeftIn (κ : ℕ) (r : Row) : Type 0 where
+-- AS THE SCOPE SAYS IT: byte strings, each accepted as a GSV line, leave in row κ of a fresh table the run that these words hold
+pub record LeftIn (κ : ℕ) (ws : List ℕ) : Type 0 where
   pub lines : List GsvSentence
   pub written : All Written lines
-  pub leaves : getD (run freshGatherer lines .rows) κ emptyRow ≡ r
-  pub standing : r ≡ emptyRow → ⊥
+  pub leaves : tableOf (run freshTable lines) κ ≡ some (openOf ws)

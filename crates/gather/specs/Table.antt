@@ -1,39 +1,41 @@
--- What a line does to a lent gatherer, whatever its rows hold.
-use mathlib.Core.Bool.{Bool, true, false}
-use lib.ListN.{getD, set, replicate}
-use Rattle.groups.specs.Step.{step}
-use Rattle.gsv.specs.Talker.{System, beidou, galileo, gps, glonass, navic, qzss}
-use Rattle.gsv.specs.declared.GnssType.{GnssType}
-use Rattle.gsv.specs.declared.GnssType.the-variants.{Beidou, Galileo, Gps, Glonass, NavIC, Qzss}
-use Rattle.sentence.specs.Sentence.{GsvSentence}
-use Rattle.rows.specs.Key.{keyOf, rowCount}
-use Rattle.rows.specs.Line.{lineOf}
-use Rattle.gather.specs.Put.{meant, emptyRow, putOf}
+-- A table of rows, one behind the other: the line's own row is changed as `Put` says, and no other word.
+use Prim.Native.Nat.{ℕ, _*_}
+use mathlib.Core.Path.{_≡_}
+use mathlib.Core.List.{List}
+use mathlib.Core.Bool.{cond}
+use lib.Dec.{eqb}
+use lib.ListN.{length, take, drop, replicate}
+use lib.Seq.{sets}
+use Rattle.groups.specs.Log.{Gsv}
+use Rattle.groups.specs.Step.{Table}
+use Rattle.gsv.specs.Gsv.{Satellite}
+use Rattle.rows.specs.Key.{rowCount}
+use Rattle.gather.specs.Words.{rowWords, meant}
+use Rattle.gather.specs.Put.{rowAfter, outcomeOf}
 use Rattle.gather.specs.declared.line.Outcome.{Outcome}
-use Rattle.gather.specs.declared.table.Handed.{Handed}
-use Rattle.gather.specs.declared.table.Handed.the-variants.{Nothing, Of}
-use Rattle.gather.specs.declared.table.Gatherer.{Gatherer}
-use Rattle.gather.specs.declared.table.Gathered.{Gathered}
+use Rattle.gather.specs.declared.line.Outcome.the-variants.{NoRow}
 
-abbrev pub freshGatherer : Gatherer
-freshGatherer = record { rows = replicate rowCount emptyRow }
+abbrev pub tableWords : ℕ
+tableWords = rowCount * rowWords
 
-abbrev pub typeOf : System → GnssType
-typeOf beidou = Beidou
-typeOf galileo = Galileo
-typeOf gps = Gps
-typeOf glonass = Glonass
-typeOf navic = NavIC
-typeOf qzss = Qzss
+-- before any line
+abbrev pub freshTable : List ℕ
+freshTable = replicate tableWords 0
 
-abbrev pub handedBy : System → Bool → Handed
-handedBy s true = Of (typeOf s)
-handedBy s false = Nothing
+abbrev pub rowOf : List ℕ → ℕ → List ℕ
+rowOf t κ = take rowWords (drop (κ * rowWords) t)
 
-abbrev pub stored : Gatherer → System → Outcome → Gathered
-stored g s o =
-    record { gatherer = record { rows = set (g .rows) (keyOf s) (o .row) }; handed = handedBy s (o .handed); group = o .group }
+-- the table as the theory has it
+abbrev pub tableOf : List ℕ → Table Satellite
+tableOf t κ = meant (rowOf t κ)
 
--- the line's own row is changed as `Put` says, and no other
-abbrev pub gatheredOf : Gatherer → GsvSentence → Gathered
-gatheredOf g s = stored g (s .system) (putOf (step (meant (getD (g .rows) (keyOf (s .system)) emptyRow)) (lineOf s)))
+-- a table of another length stands unchanged
+abbrev pub tableAfter : List ℕ → Gsv Satellite → List ℕ
+tableAfter t g = cond (eqb (length t) tableWords) (sets t (g .key * rowWords) (rowAfter (rowOf t (g .key)) g)) t
+
+abbrev pub saidBy : List ℕ → Gsv Satellite → Outcome
+saidBy t g = cond (eqb (length t) tableWords) (outcomeOf (rowOf t (g .key)) g) NoRow
+
+pub record Gathers (t t′ : List ℕ) (g : Gsv Satellite) (r : Outcome) : Type 0 where
+  pub words : t′ ≡ tableAfter t g
+  pub says : r ≡ saidBy t g

@@ -1,86 +1,58 @@
-// Whether lines of at most 102 bytes can leave a row. The test is `stands`; that it is exact is proved beside it.
+// Whether lines of at most 102 bytes can leave a row. The test is `stands`.
 ghost use mathlib.Core.Path.{_≡_};
-ghost use Prim.Native.Nat.{_≤_};
-ghost use lib.ListN.{take};
-ghost use Rattle.text.specs.Answer.{held};
+ghost use Prim.Native.Nat.{_≤_, _<_};
+ghost use lib.ListN.{length};
 ghost use Rattle.pack.specs.Cut.{pieceCount};
-ghost use Rattle.rows.specs.Leave.{space};
-ghost use Rattle.gather.specs.Lent.{absent, small, isNoSat, fair, cellGood, cellsGood, sizeOf, stands};
+ghost use Rattle.rows.specs.Leave.{upto, entrySize, space};
+ghost use Rattle.gather.specs.Words.{numberOf, satAt, satsFrom, satWithin, allWithin, stands};
 ghost use Rattle.gather.specs.Pile.{Digits, OptDigits, Sized, putOn, Puts};
-use crate::row::Row;
-use gsv::SatInfo;
-use text::Held;
 
-fn is_absent(m: Held) -> bool
-    ensures { λ r. ⌜ r ≡ absent m ⌝ }
+// The words of a row.
+pub const ROW: usize = 148;
+
+// The cells of a row: nine lines of four.
+pub const CELLS: usize = 36;
+
+// The word of what is absent.
+pub const ABSENT: u32 = 4294967295;
+
+// Numbers that short entries have: any four such entries go into one line.
+const SHORT: u32 = 9999;
+
+fn within(x: u32, max: u32) -> bool
+    ensures { λ r. ⌜ r ≡ upto max (numberOf x) ⌝ }
 {
-    match m {
-        Held::Absent => true,
-        Held::Known(_) => false,
+    if x == ABSENT {
+        return true;
     }
+    x <= max
 }
 
-// An entry's number that a GSV line can have.
-fn in_range(m: Held) -> bool
-    ensures { λ r. ⌜ r ≡ small m ⌝ }
+// The numbers of cell i are within two limits.
+fn cell_within(row: &[u32], i: usize, ids: u32, max: u32) -> bool
+    requires { ⌜ (length (now row) ≡ 148) × (i < 36) ⌝ }
+    ensures { λ r. ⌜ r ≡ satWithin ids max (satAt (now (row .entry)) i) ⌝ }
 {
-    match m {
-        Held::Absent => true,
-        Held::Known(x) => x <= gsv::PLACE_MAX,
+    let at = 4 + i * 4;
+    if ids < row[at] {
+        return false;
     }
+    if !within(row[at + 1], max) {
+        return false;
+    }
+    if !within(row[at + 2], max) {
+        return false;
+    }
+    within(row[at + 3], max)
 }
 
-fn is_no_satellite(s: SatInfo) -> bool
-    ensures { λ r. ⌜ r ≡ isNoSat s ⌝ }
-{
-    if s.id != 0 {
-        return false;
-    }
-    let e = s.elevation;
-    if !is_absent(e) {
-        return false;
-    }
-    let a = s.azimuth;
-    if !is_absent(a) {
-        return false;
-    }
-    let g = s.signal;
-    is_absent(g)
-}
-
-fn is_satellite(s: SatInfo) -> bool
-    ensures { λ r. ⌜ r ≡ fair s ⌝ }
-{
-    let e = s.elevation;
-    if !in_range(e) {
-        return false;
-    }
-    let a = s.azimuth;
-    if !in_range(a) {
-        return false;
-    }
-    let g = s.signal;
-    in_range(g)
-}
-
-// What stands in cell i may stand there, where the first count cells are used.
-fn cell_good(i: usize, count: usize, s: SatInfo) -> bool
-    ensures { λ r. ⌜ r ≡ cellGood i count s ⌝ }
-{
-    if i < count {
-        is_satellite(s)
-    } else {
-        is_no_satellite(s)
-    }
-}
-
-fn cells_good(count: usize, sats: [SatInfo; 36]) -> bool
-    ensures { λ r. ⌜ r ≡ cellsGood 0 count sats ⌝ }
+fn all_within(row: &[u32], count: usize, ids: u32, max: u32) -> bool
+    requires { ⌜ (length (now row) ≡ 148) × (count ≤ 36) ⌝ }
+    ensures { λ r. ⌜ r ≡ allWithin ids max (satsFrom 0 count (now (row .entry))) ⌝ }
 {
     let mut i = 0;
-    while i < 36 {
-        let s = sats[i];
-        if !cell_good(i, count, s) {
+    while i < count {
+        if !cell_within(row, i, ids, max) {
             return false;
         }
         i += 1;
@@ -101,27 +73,25 @@ fn digits(x: u32) -> usize
     k
 }
 
-fn opt_digits(m: Held) -> usize
-    ensures { λ r. ⌜ OptDigits (held m) r ⌝ }
+fn opt_digits(x: u32) -> usize
+    ensures { λ r. ⌜ OptDigits (numberOf x) r ⌝ }
 {
-    match m {
-        Held::Absent => 0,
-        Held::Known(x) => digits(x),
+    if x == ABSENT {
+        return 0;
     }
+    digits(x)
 }
 
-// The bytes of an entry, with one for a comma.
-fn size_of(s: SatInfo) -> usize
-    ensures { λ r. ⌜ Sized s r ⌝ }
+// The bytes of the entry in cell i, with one for a comma.
+fn size_at(row: &[u32], i: usize) -> usize
+    requires { ⌜ (length (now row) ≡ 148) × (i < 36) ⌝ }
+    ensures { λ r. ⌜ Sized (satAt (now (row .entry)) i) r ⌝ }
 {
-    let i = s.id;
-    let a = digits(i);
-    let e = s.elevation;
-    let b = opt_digits(e);
-    let z = s.azimuth;
-    let c = opt_digits(z);
-    let g = s.signal;
-    let d = opt_digits(g);
+    let at = 4 + i * 4;
+    let a = digits(row[at]);
+    let b = opt_digits(row[at + 1]);
+    let c = opt_digits(row[at + 2]);
+    let d = opt_digits(row[at + 3]);
     a + b + c + d + 4
 }
 
@@ -159,10 +129,10 @@ fn pile_on(p: Pile, w: usize, room: usize) -> Pile
     }
 }
 
-// How many lines the first count of these take.
-fn pieces(view: u32, count: usize, sats: [SatInfo; 36]) -> usize
-    requires { ⌜ count ≤ 36 ⌝ }
-    ensures { λ r. ⌜ r ≡ pieceCount sizeOf (space view) (take count sats) ⌝ }
+// How many lines the first count of the cells take.
+fn pieces(row: &[u32], view: u32, count: usize) -> usize
+    requires { ⌜ (length (now row) ≡ 148) × (count ≤ 36) ⌝ }
+    ensures { λ r. ⌜ r ≡ pieceCount entrySize (space view) (satsFrom 0 count (now (row .entry))) ⌝ }
 {
     let d = digits(view);
     let room = 88 - d;
@@ -173,8 +143,7 @@ fn pieces(view: u32, count: usize, sats: [SatInfo; 36]) -> usize
     };
     let mut i = 0;
     while i < count {
-        let s = sats[i];
-        let w = size_of(s);
+        let w = size_at(row, i);
         p = pile_on(p, w, room);
         i += 1;
     }
@@ -182,31 +151,39 @@ fn pieces(view: u32, count: usize, sats: [SatInfo; 36]) -> usize
 }
 
 // Lines of at most 102 bytes can leave this row.
-pub fn row_stands(row: Row) -> bool
-    ensures { λ r. ⌜ r ≡ stands row ⌝ }
+pub fn row_stands(row: &[u32]) -> bool
+    ensures { λ r. ⌜ r ≡ stands (now (row .entry)) ⌝ }
 {
-    let next = row.next;
+    if row.len() != ROW {
+        return false;
+    }
+    let next = row[1];
     if next < 2 {
         return false;
     }
-    if row.n < next {
+    let n = row[0];
+    if n < next {
         return false;
     }
-    if 9 < row.n {
+    if 9 < n {
         return false;
     }
-    let view = row.view;
+    let view = row[2];
     if gsv::COUNT_MAX < view {
         return false;
     }
-    let count = row.count;
-    if 36 < count {
+    let many = row[3];
+    if 36 < many {
         return false;
     }
-    let sats = row.sats;
-    if !cells_good(count, sats) {
+    let count = many as usize;
+    let came = next as usize - 1;
+    if all_within(row, count, SHORT, SHORT) {
+        return count <= 4 * came;
+    }
+    if !all_within(row, count, gsv::ID_MAX, gsv::PLACE_MAX) {
         return false;
     }
-    let k = pieces(view, count, sats);
-    k <= next as usize - 1
+    let k = pieces(row, view, count);
+    k <= came
 }

@@ -1,245 +1,160 @@
-// What an accepted GSV line does to its row, whatever the row holds.
+// What an accepted GSV line does to its row, in place, whatever the row holds.
 ghost use mathlib.Core.Path.{_≡_};
-ghost use mathlib.Core.Option.{none};
+ghost use mathlib.Core.List.{[]};
 ghost use Prim.Native.Nat.{_≤_, _<_};
-ghost use lib.Seq.{paste};
-ghost use Rattle.groups.specs.Step.{sofar, step};
-ghost use Rattle.gsv.specs.Gsv.{present};
-ghost use Rattle.gsv.specs.Answer.{gsvData};
+ghost use lib.ListN.{length};
+ghost use Rattle.text.specs.Answer.{held};
+ghost use Rattle.groups.specs.Step.{sofar};
+ghost use Rattle.gsv.specs.Gsv.{present, keep};
+ghost use Rattle.gsv.specs.Answer.{slot, gsvData};
 ghost use Rattle.rows.specs.Line.{lineOf};
 ghost use Rattle.sentence.specs.Answer.{gsvSentence};
-ghost use Rattle.gather.specs.Cells.{pushed, fourOf};
-ghost use Rattle.gather.specs.Put.{meant, onRow, beforeOf, putOf, keptOf};
+ghost use Rattle.gather.specs.Words.{wordOf, meant};
+ghost use Rattle.gather.specs.Put.{headed, onRow, beforeOf, Stored, Put};
 use crate::lent;
-use crate::row;
-use crate::row::Group;
-use crate::row::Row;
 use gsv::GsvData;
-use gsv::SatInfo;
 use gsv::Slot;
 use sentence::GsvRecord;
-
-// The present entries of a line: the first `count` cells.
-pub struct Four {
-    pub count: usize,
-    pub sats: [SatInfo; 4],
-}
-
-fn push(e: Four, s: Slot) -> Four
-    requires { ⌜ e .count < 4 ⌝ }
-    ensures { λ r. ⌜ r ≡ pushed e s ⌝ }
-{
-    match s {
-        Slot::Empty => e,
-        Slot::Seen(t) => {
-            let at = e.count;
-            let mut sats = e.sats;
-            sats[at] = t;
-            Four {
-                count: at + 1,
-                sats: sats,
-            }
-        }
-    }
-}
-
-fn present(d: GsvData) -> Four
-    ensures { λ r. ⌜ r ≡ fourOf (present (gsvData d)) ⌝ }
-{
-    let none = row::no_satellite();
-    let e = Four {
-        count: 0,
-        sats: [none; 4],
-    };
-    let a = d.first;
-    let e = push(e, a);
-    let b = d.second;
-    let e = push(e, b);
-    let c = d.third;
-    let e = push(e, c);
-    let f = d.fourth;
-    push(e, f)
-}
-
-// The first n of more, put behind the first count of sats.
-fn add(sats: [SatInfo; 36], count: usize, more: [SatInfo; 4], n: usize) -> [SatInfo; 36]
-    requires { ⌜ (count ≤ 32) × (n ≤ 4) ⌝ }
-    ensures { λ r. ⌜ r ≡ paste sats count more n ⌝ }
-{
-    let mut out = sats;
-    let mut j = 0;
-    while j < n {
-        let s = more[j];
-        out[count + j] = s;
-        j += 1;
-    }
-    out
-}
+use text::Held;
 
 // The line goes on with the run that stands in the row.
-fn goes_on(row: Row, line: GsvRecord) -> bool
-    ensures { λ r. ⌜ r ≡ onRow row (gsvSentence line) ⌝ }
+fn goes_on(row: &[u32], n: u32, number: u32, view: u32) -> bool
+    requires { ⌜ length (now row) ≡ 148 ⌝ }
+    ensures { λ r. ⌜ r ≡ onRow (now (row .entry)) n number view ⌝ }
 {
-    let d = line.data;
-    if d.count != row.n {
+    if n != row[0] {
         return false;
     }
-    if d.index != row.next {
+    if number != row[1] {
         return false;
     }
-    if d.view != row.view {
+    if view != row[2] {
         return false;
     }
     lent::row_stands(row)
 }
 
-// The entries before a line that starts a run or goes on with one; `runs` is false where it does neither.
+// How many entries stand before a line that starts a run or goes on with one; `runs` is false where it does neither.
 pub struct Before {
     pub runs: bool,
     pub count: usize,
-    pub sats: [SatInfo; 36],
 }
 
-fn no_run() -> Before
-    ensures { λ r. ⌜ r ≡ beforeOf none ⌝ }
+fn so_far(row: &[u32], n: u32, number: u32, view: u32) -> Before
+    requires { ⌜ length (now row) ≡ 148 ⌝ }
+    ensures { λ r. ⌜ r ≡ beforeOf (sofar (meant (now (row .entry))) (headed n number view)) ⌝ }
 {
-    let sats = row::no_satellites();
-    Before {
-        runs: false,
-        count: 0,
-        sats: sats,
-    }
-}
-
-fn so_far(row: Row, line: GsvRecord) -> Before
-    ensures { λ r. ⌜ r ≡ beforeOf (sofar (meant row) (lineOf (gsvSentence line))) ⌝ }
-{
-    let d = line.data;
-    if d.index == 1 {
-        if d.count < 1 {
-            return no_run();
+    if number == 1 {
+        if n < 1 {
+            return Before {
+                runs: false,
+                count: 0,
+            };
         }
-        if 9 < d.count {
-            return no_run();
+        if 9 < n {
+            return Before {
+                runs: false,
+                count: 0,
+            };
         }
-        let sats = row::no_satellites();
         return Before {
             runs: true,
             count: 0,
-            sats: sats,
         };
     }
-    if !goes_on(row, line) {
-        return no_run();
+    if !goes_on(row, n, number, view) {
+        return Before {
+            runs: false,
+            count: 0,
+        };
     }
-    let sats = row.sats;
-    let count = row.count;
+    let count = row[3];
     Before {
         runs: true,
-        count: count,
-        sats: sats,
+        count: count as usize,
     }
 }
 
-// What a line leaves in its row, whether it hands out a group, and the group.
-pub struct Outcome {
-    pub row: Row,
-    pub handed: bool,
-    pub group: Group,
+fn word(m: Held) -> u32
+    ensures { λ r. ⌜ r ≡ wordOf (held m) ⌝ }
+{
+    match m {
+        Held::Absent => lent::ABSENT,
+        Held::Known(x) => x,
+    }
 }
 
-// What an accepted GSV line does to its row.
-pub fn put(row: Row, line: GsvRecord) -> Outcome
-    ensures { λ r. ⌜ r ≡ putOf (step (meant row) (lineOf (gsvSentence line))) ⌝ }
+// An entry that is there goes into cell k; the count of cells after it.
+fn put_slot(row: &mut [u32], k: usize, s: Slot) -> usize
+    requires { ⌜ (length (now row) ≡ 148) × (k < 36) ⌝ }
+    ensures { λ r. ⌜ Stored (now (row .entry)) (now (row .exit)) k (keep (slot s) []) r ⌝ }
 {
-    let s = so_far(row, line);
-    if !s.runs {
-        let row = row::empty_row();
-        let group = row::no_group();
-        return Outcome {
-            row: row,
-            handed: false,
-            group: group,
-        };
+    match s {
+        Slot::Empty => k,
+        Slot::Seen(t) => {
+            let at = 4 + k * 4;
+            let e = t.elevation;
+            let a = t.azimuth;
+            let g = t.signal;
+            row[at] = t.id;
+            row[at + 1] = word(e);
+            row[at + 2] = word(a);
+            row[at + 3] = word(g);
+            k + 1
+        }
+    }
+}
+
+// The entries of a line go into the cells from k on.
+fn put_slots(row: &mut [u32], k: usize, d: GsvData) -> usize
+    requires { ⌜ (length (now row) ≡ 148) × (k ≤ 32) ⌝ }
+    ensures { λ r. ⌜ Stored (now (row .entry)) (now (row .exit)) k (present (gsvData d)) r ⌝ }
+{
+    let a = d.first;
+    let k1 = put_slot(&mut *row, k, a);
+    let b = d.second;
+    let k2 = put_slot(&mut *row, k1, b);
+    let c = d.third;
+    let k3 = put_slot(&mut *row, k2, c);
+    let e = d.fourth;
+    put_slot(&mut *row, k3, e)
+}
+
+// What a line did to its row. Complete: until the next line of its key the row's n, in-view count, count and cells are the group.
+pub enum Outcome {
+    NoRow,
+    Nothing,
+    Waiting,
+    Complete,
+}
+
+// What an accepted GSV line does to its row. Words that are no row are left as they are.
+pub fn put(row: &mut [u32], line: GsvRecord) -> Outcome
+    ensures { λ r. ⌜ Put (now (row .entry)) (now (row .exit)) (lineOf (gsvSentence line)) r ⌝ }
+{
+    if row.len() != lent::ROW {
+        return Outcome::NoRow;
     }
     let d = line.data;
-    let e = present(d);
-    let sats = s.sats;
-    let count = s.count;
-    let more = e.sats;
-    let n = e.count;
-    let all = add(sats, count, more, n);
-    let total = count + n;
-    if d.index == d.count {
-        let row = row::empty_row();
-        let group = Group {
-            n: d.count,
-            view: d.view,
-            count: total,
-            sats: all,
-        };
-        return Outcome {
-            row: row,
-            handed: true,
-            group: group,
-        };
+    let n = d.count;
+    let number = d.index;
+    let view = d.view;
+    let before = so_far(&*row, n, number, view);
+    if !before.runs {
+        row[1] = 0;
+        return Outcome::Nothing;
     }
-    let row = Row {
-        n: d.count,
-        next: d.index + 1,
-        view: d.view,
-        count: total,
-        sats: all,
-    };
-    let group = row::no_group();
-    Outcome {
-        row: row,
-        handed: false,
-        group: group,
+    let count = before.count;
+    let total = put_slots(&mut *row, count, d);
+    row[0] = n;
+    if number == n {
+        row[1] = 0;
+        row[2] = view;
+        row[3] = total as u32;
+        return Outcome::Complete;
     }
-}
-
-// The same without the group's cells: a walk only counts groups.
-pub struct Kept {
-    pub row: Row,
-    pub handed: bool,
-}
-
-// What `put` leaves in the row, and whether it hands out a group.
-pub fn put_row(row: Row, line: GsvRecord) -> Kept
-    ensures { λ r. ⌜ r ≡ keptOf (step (meant row) (lineOf (gsvSentence line))) ⌝ }
-{
-    let s = so_far(row, line);
-    if !s.runs {
-        let row = row::empty_row();
-        return Kept {
-            row: row,
-            handed: false,
-        };
-    }
-    let body = line.data;
-    if body.index == body.count {
-        let row = row::empty_row();
-        return Kept {
-            row: row,
-            handed: true,
-        };
-    }
-    let e = present(body);
-    let sats = s.sats;
-    let count = s.count;
-    let more = e.sats;
-    let n = e.count;
-    let all = add(sats, count, more, n);
-    let row = Row {
-        n: body.count,
-        next: body.index + 1,
-        view: body.view,
-        count: count + n,
-        sats: all,
-    };
-    Kept {
-        row: row,
-        handed: false,
-    }
+    row[1] = number + 1;
+    row[2] = view;
+    row[3] = total as u32;
+    Outcome::Waiting
 }

@@ -1,43 +1,20 @@
-// The table: a row for each system. A line changes its own row, and no other.
+// The table: a row for each system, one behind the other. A line changes its own row, and no other.
 ghost use mathlib.Core.Path.{_≡_};
 ghost use Rattle.gsv.specs.Answer.{gnss};
 ghost use Rattle.rows.specs.Key.{keyOf};
+ghost use Rattle.rows.specs.Line.{lineOf};
 ghost use Rattle.sentence.specs.Answer.{gsvSentence};
-ghost use Rattle.gather.specs.Table.{freshGatherer, gatheredOf};
+ghost use Rattle.gather.specs.Table.{Gathers};
 use crate::line;
-use crate::row;
-use crate::row::Group;
-use crate::row::Row;
+use crate::line::Outcome;
 use gsv::GnssType;
 use sentence::GsvRecord;
 
-// How many rows there are: one for each system.
+// How many rows a table has: one for each system.
 pub const ROWS: usize = 6;
 
-pub struct Gatherer {
-    pub rows: [Row; ROWS],
-}
-
-// Whether a group is handed out, and of which system.
-pub enum Handed {
-    Nothing,
-    Of(GnssType),
-}
-
-// The gatherer after a line, and what the line hands out.
-pub struct Gathered {
-    pub gatherer: Gatherer,
-    pub handed: Handed,
-    pub group: Group,
-}
-
-// A gatherer before any line.
-pub fn fresh() -> Gatherer
-    ensures { λ r. ⌜ r ≡ freshGatherer ⌝ }
-{
-    let row = row::empty_row();
-    Gatherer { rows: [row; ROWS] }
-}
+// And words.
+pub const WORDS: usize = 888;
 
 // The row of a system.
 pub fn row_of(system: GnssType) -> usize
@@ -53,30 +30,16 @@ pub fn row_of(system: GnssType) -> usize
     }
 }
 
-// What an accepted GSV line does to the gatherer: only its own row changes.
-pub fn gather(g: Gatherer, line: GsvRecord) -> Gathered
-    ensures { λ r. ⌜ r ≡ gatheredOf g (gsvSentence line) ⌝ }
+// What an accepted GSV line does to the table: only its own row changes.
+pub fn gather(table: &mut [u32], line: GsvRecord) -> Outcome
+    ensures { λ r. ⌜ Gathers (now (table .entry)) (now (table .exit)) (lineOf (gsvSentence line)) r ⌝ }
 {
+    if table.len() != WORDS {
+        return Outcome::NoRow;
+    }
     let system = line.system;
     let key = row_of(system);
-    let row = g.rows[key];
-    let out = line::put(row, line);
-    let mut after = g;
-    let left = out.row;
-    after.rows[key] = left;
-    let group = out.group;
-    if out.handed {
-        let of = Handed::Of(system);
-        return Gathered {
-            gatherer: after,
-            handed: of,
-            group: group,
-        };
-    }
-    let nothing = Handed::Nothing;
-    Gathered {
-        gatherer: after,
-        handed: nothing,
-        group: group,
-    }
+    let at = key * 148;
+    let end = at + 148;
+    line::put(&mut table[at..end], line)
 }

@@ -8,7 +8,7 @@ use lib.ListN.{take}
 use Rattle.lines.specs.Places.{lineAt, nextPlace}
 use Rattle.gsv.specs.Answer.{gnss}
 use Rattle.rows.specs.Key.{keyOf, rowCount}
-use Rattle.gather.proofs.Keys.{key-below}
+use Rattle.gather.proofs.Tables.{key-below}
 use Rattle.sentence.specs.declared.GsvRecord.{GsvRecord}
 use Rattle.sentence.specs.Sentence.{isRmc, isGsa, isGsv, isOther, isRefused, GsvSentence}
 use Rattle.sentence.specs.declared.Record.the-variants.{Rmc, Gsa, Gsv, Other, Refused}

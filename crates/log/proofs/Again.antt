@@ -9,7 +9,7 @@ use mathlib.Core.Bool.{true}
 use lib.ListN.{length}
 use Rattle.lines.specs.Places.{isPlace}
 use Rattle.lines.proofs.Next.{next-place}
-use Rattle.gather.specs.declared.table.Gatherer.{Gatherer}
+use Rattle.fed.specs.Line.{Gatherer}
 use Rattle.log.specs.declared.walk.Counts.{Counts}
 use Rattle.log.specs.Step.{longest, Stepped}
 use Rattle.log.specs.Walk.{Going, counted, onward, steps, begin, went, Walked, gone, walkOf}

@@ -21,9 +21,8 @@ use Rattle.gsv.specs.Gsv.{Satellite}
 use Rattle.sentence.specs.Sentence.{answer, isRefused}
 use Rattle.sentence.proofs.OneByte.{Refuses, one-byte-refused}
 use Rattle.fed.specs.Line.{Said, blank, read, saidOf}
-use Rattle.fed.specs.Seen.{Gives}
 use Rattle.log.specs.Step.{longest}
-use Rattle.log.specs.Told.{says, told, stepAfter, lineIn}
+use Rattle.log.specs.Told.{says, told, stepAfter, lineIn, Gives}
 use Rattle.log.proofs.Damage.{says-count, line-before, line-after, same-before, same-after}
 use Rattle.log.proofs.Handing.{says-line, hands-out}
 
@@ -59,7 +58,7 @@ module _ (a b m m′ : List ℕ) (whole : Whole a) (w : Whole m ⊎ (b ≡ [])) 
 
   -- groups that are handed out before are the same
   pub groups-before : (i : ℕ) → i < length (says a) → (h : Handed Satellite)
-      → Gives (stepAfter i log .gathered) h ↔ Gives (stepAfter i log′ .gathered) h
+      → Gives (stepAfter i log) h ↔ Gives (stepAfter i log′) h
   groups-before i k h =
       let x = hands-out log short i (omega (arith, says-count a b whole m w)) h in
       let y = hands-out log′ short′ i (omega (arith, says-count a b whole m′ w′)) h in
@@ -68,7 +67,7 @@ module _ (a b m m′ : List ℕ) (whole : Whole a) (w : Whole m ⊎ (b ≡ [])) 
   -- "each system's groups are the same from its next accepted GSV numbered 1", which stands at j of b
   pub groups-after : (j : ℕ) (g : Gsv Satellite) → getD (told b) j other ≡ gsv g → g .number ≡ 1
       → (i : ℕ) → j ≤ i → i < length (says b) → (h : Handed Satellite) → h .key ≡ g .key
-      → Gives (stepAfter (from + i) log .gathered) h ↔ Gives (stepAfter (from′ + i) log′ .gathered) h
+      → Gives (stepAfter (from + i) log) h ↔ Gives (stepAfter (from′ + i) log′) h
   groups-after j g e one i le k h mine =
       let x = hands-out log short (from + i) (omega (arith, says-count a b whole m w)) h in
       let y = hands-out log′ short′ (from′ + i) (omega (arith, says-count a b whole m′ w′)) h in (

@@ -5,26 +5,17 @@ use native.Mathlib.Omega.{arith}
 use mathlib.Core.Path.{_≡_, refl, ap, sym, _∙_, subst}
 use mathlib.Core.List.{List, []}
 use mathlib.Core.Bool.{Bool, true, false}
-use lib.ListN.{length, drop, getD, set, length-set}
+use lib.ListN.{length, drop}
 use Rattle.lines.specs.Lines.{lines}
 use Rattle.lines.specs.Places.{isPlace, lineAt, nextPlace}
 use Rattle.lines.proofs.Next.{next-within, next-more, next-place, lines-here, lines-end}
-use Rattle.groups.specs.Step.{step}
-use Rattle.gsv.specs.Talker.{System}
-use Rattle.gsv.specs.Answer.{gnss}
-use Rattle.rows.specs.Key.{keyOf, rowCount}
 use Rattle.rows.specs.Line.{lineOf}
 use Rattle.sentence.specs.Answer.{gsvSentence}
 use Rattle.sentence.specs.declared.GsvRecord.{GsvRecord}
-use Rattle.gather.specs.declared.row.Row.{Row}
-use Rattle.gather.specs.declared.row.Group.{Group}
-use Rattle.gather.specs.declared.line.Kept.{Kept}
-use Rattle.gather.specs.declared.table.Gatherer.{Gatherer}
-use Rattle.gather.specs.declared.table.Gathered.{Gathered}
-use Rattle.gather.specs.Put.{meant, putOf, keptOf}
-use Rattle.gather.specs.Table.{handedBy, gatheredOf}
-use Rattle.gather.proofs.Keys.{stored-is}
-use Rattle.fed.specs.Line.{saidOf, gsvOf, gathers}
+use Rattle.gather.specs.Table.{Gathers}
+use Rattle.gather.specs.declared.line.Outcome.{Outcome}
+use Rattle.gather.proofs.Tables.{table-long}
+use Rattle.fed.specs.Line.{saidOf, gsvOf, Gatherer, Gathered, gathers}
 use Rattle.fed.specs.Fed.{isHanded}
 use Rattle.fed.proofs.Counts.{one-of-three}
 use Rattle.log.specs.declared.line.Found.{Found}
@@ -130,18 +121,18 @@ pub record Goes (log : List ℕ) (place allowance : ℕ) (g : Gatherer) (c : Cou
   pub short : length log ≤ 65536
   pub fit : Fit log c
   pub within : c .lines ≤ allowance
-  pub rows : length (a .rows) ≡ rowCount
+  pub rows : length a ≡ length g
   pub same : goOn log allowance (begin place g) ≡ goOn log (allowance - c .lines) (record { counts = c; gatherer = a })
 
-pub goes-first : (log : List ℕ) (place allowance : ℕ) (g : Gatherer) → length log ≤ 65536 → isPlace log place ≡ true → length (g .rows) ≡ rowCount
+pub goes-first : (log : List ℕ) (place allowance : ℕ) (g : Gatherer) → length log ≤ 65536 → isPlace log place ≡ true
     → Goes log place allowance g (begin place g .counts) g
-goes-first log place allowance g short h r =
+goes-first log place allowance g short h =
     let z : allowance ≡ allowance - 0 = omega arith in
     record {
       short = short;
       fit = record { place = h; inside = place-within log place h; few = omega arith; sum = refl; handed = omega arith };
       within = omega arith;
-      rows = r;
+      rows = refl;
       same = ap (λ (k : ℕ). goOn log k (begin place g)) z;
     }
 
@@ -150,7 +141,7 @@ module _ (log : List ℕ) (place allowance : ℕ) (g : Gatherer) (c : Counts) (a
   abbrev w : Going
   w = record { counts = c; gatherer = a }
 
-  goes-on : (c' : Counts) (a' : Gatherer) → _≡_ {A = Going} (record { counts = c'; gatherer = a' }) (going log w) → length (a' .rows) ≡ rowCount
+  goes-on : (c' : Counts) (a' : Gatherer) → _≡_ {A = Going} (record { counts = c'; gatherer = a' }) (going log w) → length a' ≡ length g
       → Goes log place allowance g c' a'
   goes-on c' a' e r =
       let b = isHanded (lineGathered log w .handed) in
@@ -199,31 +190,11 @@ module _ (log : List ℕ) (place allowance : ℕ) (g : Gatherer) (c : Counts) (a
       after-other e =
           goes-on t a ((λ i. record { counts = right i; gatherer = a }) ∙ ap (goingBy (lineTallied log c)) (found e)) (now' .rows)
 
-      handed-is : (y : System) (b : Bool) → isHanded (handedBy y b) ≡ b
-      handed-is y true = refl
-      handed-is y false = refl
-
       -- a line that gathers
-      pub after-gathered : (r : GsvRecord) → f ≡ Is r → (a' : Gatherer) (b : Bool) (q : Group)
-          → gatheredOf a (gsvSentence r) ≡ record { gatherer = a'; handed = handedBy (gsvSentence r .system) b; group = q }
-          → length (a' .rows) ≡ rowCount → (c' : Counts) → c' ≡ grouped t b → Goes log place allowance g c' a'
-      after-gathered r e a' b q eg long c' ec =
-          let y = gsvSentence r .system in
+      pub after-gathered : (r : GsvRecord) → f ≡ Is r → (a' : Gatherer) (o : Outcome) → Gathers a a' (lineOf (gsvSentence r)) o
+          → (c' : Counts) → c' ≡ grouped t (isHanded o) → Goes log place allowance g c' a'
+      after-gathered r e a' o x c' ec =
           goes-on c' a'
-          ((λ i. record { counts = (ec ∙ (λ j. grouped (right j) b) ∙ ap (grouped (lineTallied log c)) (sym (handed-is y b))) i; gatherer = a' })
-          ∙ ap (goingBy (lineTallied log c)) (sym eg ∙ found e))
-          long
-
-      pub after-kept : (r : GsvRecord) → f ≡ Is r → (k : ℕ) → k ≡ keyOf (gnss (r .system)) → (d : Row) (o : Kept)
-          → o ≡ keptOf (step (meant (getD (a .rows) k d)) (lineOf (gsvSentence r))) → (c' : Counts) → c' ≡ grouped t (o .handed)
-          → Goes log place allowance g c' (record { rows = set (a .rows) k (o .row) })
-      after-kept r e k ek d o eo c' ec =
-          let l = gsvSentence r in
-          let x = putOf (step (meant (getD (a .rows) k d)) (lineOf l)) in
-          after-gathered r e (record { rows = set (a .rows) k (o .row) }) (x .handed) (x .group)
-          (sym
-          ((λ i. record { gatherer = record { rows = set (a .rows) k (eo i .row) }; handed = handedBy (l .system) (x .handed); group = x .group })
-          ∙ stored-is a l x d k (now' .rows) ek refl refl))
-          (length-set (a .rows) k (o .row) ∙ now' .rows)
-          c'
-          (ec ∙ ap (λ (z : Kept). grouped t (z .handed)) eo)
+          ((λ i. record { counts = (ec ∙ (λ j. grouped (right j) (isHanded o))) i; gatherer = a' })
+          ∙ ap (goingBy (lineTallied log c)) ((λ i. record { gatherer = x .words i; handed = x .says i }) ∙ found e))
+          (ap length (x .words) ∙ table-long a (lineOf (gsvSentence r)) ∙ now' .rows)

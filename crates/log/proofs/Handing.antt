@@ -6,7 +6,7 @@ use mathlib.Core.Path.{_≡_, refl, ap, sym, _∙_, subst}
 use mathlib.Core.Logic.{⊎-elim, _↔_}
 use mathlib.Core.List.{List, [], _∷_}
 use mathlib.Core.Bool.{true}
-use mathlib.Core.Option.{some}
+use mathlib.Core.Option.{Option, some}
 use lib.ListN.{length, take, drop, getD, length-drop, length-map, List·getD-map}
 use lib.Seq.{drop-cons}
 use Rattle.lines.specs.Lines.{lines}
@@ -15,16 +15,14 @@ use Rattle.lines.proofs.Next.{next-place, lines-here, lines-end}
 use Rattle.groups.specs.Log.{Handed}
 use Rattle.groups.specs.Group.{HandedOut}
 use Rattle.gsv.specs.Gsv.{Satellite}
-use Rattle.gather.specs.Table.{freshGatherer}
-use Rattle.gather.specs.declared.table.Gatherer.{Gatherer}
-use Rattle.gather.specs.declared.table.Gathered.{Gathered}
-use Rattle.fed.specs.Line.{Said, blank, saidOf, saidAll, gsvOf, gathers}
-use Rattle.fed.specs.Seen.{Gives}
+use Rattle.gather.specs.Table.{freshTable}
+use Rattle.fed.specs.Line.{Said, blank, saidOf, saidAll, gsvOf, Gatherer, gathers}
+use Rattle.fed.specs.Seen.{givenBy, givenAt}
 use Rattle.fed.specs.Fed.{gathered, fedAt}
 use Rattle.fed.proofs.Handing.{hands-list}
 use Rattle.log.specs.Step.{longest, Stepped, line}
 use Rattle.log.specs.Walk.{Going, begin, steps}
-use Rattle.log.specs.Told.{says, told, stepAfter, lineIn}
+use Rattle.log.specs.Told.{says, told, stepAfter, lineIn, gsvIn, Gives}
 use Rattle.log.proofs.Places.{place-within, place-zero}
 use Rattle.log.proofs.OneStep.{at-line, good-place}
 use Rattle.log.proofs.Sums.{upto}
@@ -68,13 +66,13 @@ module _ (log : List ℕ) (short : length log ≤ longest) where
 module _ (log : List ℕ) (short : length log ≤ longest) (i : ℕ) (within : i < length (says log)) where
   -- where the walk has come
   abbrev there : Going
-  there = steps i log (begin 0 freshGatherer)
+  there = steps i log (begin 0 freshTable)
 
   enough : i < length (lines log)
   enough = omega (arith, length-map (lines log) saidOf)
 
-  reached : Came log (begin 0 freshGatherer) i there
-  reached = came log short i (begin 0 freshGatherer) (place-zero log 0 refl) (omega (arith, enough))
+  reached : Came log (begin 0 freshTable) i there
+  reached = came log short i (begin 0 freshTable) (place-zero log 0 refl) (omega (arith, enough))
 
   still : there .counts .next < length log
   still =
@@ -109,8 +107,14 @@ module _ (log : List ℕ) (short : length log ≤ longest) (i : ℕ) (within : i
   feeds-line =
       ap (λ (s : Stepped). s .gathered) by-step
       ∙ ap (λ (g : Gatherer). gathers g (gsvOf (saidOf (lineAt log (there .counts .next))))) (reached .holding)
-      ∙ ap (λ (s : Said). gathers (gathered freshGatherer (take i (says log))) (gsvOf s)) its-said
+      ∙ ap (λ (s : Said). gathers (gathered freshTable (take i (says log))) (gsvOf s)) its-said
+
+  its-given : givenBy (gsvIn (stepAfter i log .answer)) (stepAfter i log .gathered) ≡ givenAt (says log) i
+  its-given =
+      ap (λ (s : Stepped). givenBy (gsvIn (s .answer)) (s .gathered)) by-step
+      ∙ (λ j. givenBy (gsvOf (its-said j)) (gathers (reached .holding j) (gsvOf (its-said j))))
 
   -- THE THEOREM: so it hands out a group exactly where the definition says
-  pub hands-out : (h : Handed Satellite) → Gives (stepAfter i log .gathered) h ↔ HandedOut (told log) i h
-  hands-out h = subst (λ (a : Gathered). Gives a h ↔ HandedOut (told log) i h) (sym feeds-line) (hands-list (lines log) i h)
+  pub hands-out : (h : Handed Satellite) → Gives (stepAfter i log) h ↔ HandedOut (told log) i h
+  hands-out h =
+      subst (λ (a : Option (Handed Satellite)). (a ≡ some h) ↔ HandedOut (told log) i h) (sym its-given) (hands-list (lines log) i h)

@@ -28,12 +28,11 @@ use Rattle.groups.specs.Log.{Gsv, gsv, other, Handed}
 use Rattle.groups.specs.Group.{HandedOut}
 use Rattle.lines.specs.Lines.{stretches, trim, lines, Whole}
 use Rattle.lines.specs.Places.{isPlace, stretch, rest, lineAt, nextPlace}
-use Rattle.gather.specs.declared.table.Handed.the-variants.{Nothing}
+use Rattle.gather.specs.declared.line.Outcome.the-variants.{Nothing}
 use Rattle.fed.specs.Line.{read}
-use Rattle.fed.specs.Seen.{Gives}
 use Rattle.log.specs.Step.{stepAt, stepOf}
 use Rattle.log.specs.Walk.{steps}
-use Rattle.log.specs.Told.{says, told, stepAfter, lineIn}
+use Rattle.log.specs.Told.{says, told, stepAfter, lineIn, Gives}
 use Rattle.log.proofs.Handing.{hands-out}
 use Rattle.log.proofs.Demand.{keeps-before, keeps-after, groups-after, why, line-refused, others-keep}
 
@@ -96,9 +95,9 @@ unfolding lines stretches trim
 log-four = refl
 
 -- THE FIRST CLAUSE: the step hands out the group, so the definition does
-gives-first : Gives (stepAfter 1 log .gathered) (group 1 2)
+gives-first : Gives (stepAfter 1 log) (group 1 2)
 unfolding lines stretches trim answer dispatch frame sized sentence sentenceType checksumField taken known hex digit checksumFrom types alike listed follow utf8Step after ascii until char oneOf among letterOf _>>=_ pure opt alt orMiss number numberFrom rowOf gsvData entry counted cell closing many skip takeWhile1 eof allConsuming oneOf3 isPlace stretch rest lineAt nextPlace steps stepAt stepOf more digitsOf digitsFor entryText
-gives-first = record { key = refl; group = refl }
+gives-first = refl
 
 first-handed : HandedOut (told log) 1 (group 1 2)
 first-handed = hands-out log (omega arith) 1 (omega (arith, log-four)) (group 1 2) .0 gives-first
@@ -109,9 +108,9 @@ unfolding lines stretches trim answer dispatch frame sized sentence sentenceType
 broken-off = refl
 
 -- and from the system's next number 1 the groups are the same
-gives-later : Gives (stepAfter 3 log .gathered) (group 8 9)
+gives-later : Gives (stepAfter 3 log) (group 8 9)
 unfolding lines stretches trim answer dispatch frame sized sentence sentenceType checksumField taken known hex digit checksumFrom types alike listed follow utf8Step after ascii until char oneOf among letterOf _>>=_ pure opt alt orMiss number numberFrom rowOf gsvData entry counted cell closing many skip takeWhile1 eof allConsuming oneOf3 isPlace stretch rest lineAt nextPlace steps stepAt stepOf more digitsOf digitsFor entryText
-gives-later = record { key = refl; group = refl }
+gives-later = refl
 
 abbrev anew : Gsv Satellite
 anew = record { key = 0; n = 2; number = 1; view = 2; sats = satellite 8 ∷ [] }
@@ -126,11 +125,11 @@ log-index = omega (arith, begun-one, ended-one)
 damaged-index : length (says begun) + length (says broken) + 1 ≡ 4
 damaged-index = omega (arith, begun-one, broken-two)
 
-later-handed : Gives (stepAfter 4 damaged .gathered) (group 8 9)
+later-handed : Gives (stepAfter 4 damaged) (group 8 9)
 later-handed =
-    subst (λ (i : ℕ). Gives (stepAfter i damaged .gathered) (group 8 9)) damaged-index
+    subst (λ (i : ℕ). Gives (stepAfter i damaged) (group 8 9)) damaged-index
     (groups-after begun later ended broken begun-whole (inl ended-whole) (inl broken-whole) (omega arith) (omega arith) 0 anew anew-stands refl 1 (omega arith) (omega (arith, later-two)) (group 8 9) refl .0
-    (subst (λ (i : ℕ). Gives (stepAfter i log .gathered) (group 8 9)) (sym log-index) gives-later))
+    (subst (λ (i : ℕ). Gives (stepAfter i log) (group 8 9)) (sym log-index) gives-later))
 
 -- the lines outside keep their answers: the one before, and one after
 first-kept : lineIn (stepAfter 0 log .answer) ≡ lineIn (stepAfter 0 damaged .answer)

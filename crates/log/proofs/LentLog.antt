@@ -1,6 +1,6 @@
--- THE RULE ON LENT ROWS, over logs: the code's test is true exactly of the rows, other than the empty one, that the lines of some log leave in
--- a fresh gatherer. The lines that `lent-exactly` finds make a log with their line feeds; and whatever a log's lines are, the rows hold the
--- theory's table. Assumes nothing.
+-- THE RULE ON LENT ROWS, over logs: the words of a row count exactly where the lines of some log leave in a fresh table what they hold. The
+-- lines that `lent-exactly` finds make a log with their line feeds; and whatever a log's lines are, what a row means can be left.
+-- Assumes nothing.
 use Prim.Native.Nat.{ℕ, _<_}
 use native.Mathlib.Omega.{arith}
 use mathlib.Core.Path.{_≡_, refl, ap, sym, _∙_}
@@ -8,9 +8,8 @@ use mathlib.Core.Logic.{inl, inr, _↔_}
 use mathlib.Core.Bool.{true}
 use mathlib.Core.Option.{Option, some}
 use mathlib.Core.List.{List, [], _∷_, _++_}
-use lib.ListN.{length, getD}
+use lib.ListN.{length}
 use Rattle.frame.proofs.Within.{star-within}
-use Rattle.groups.specs.Step.{fresh, after}
 use Rattle.groups.specs.Left.{All}
 use Rattle.lines.specs.Lines.{lineFeed, lines, Whole}
 use Rattle.lines.proofs.Split.{no-lines}
@@ -20,26 +19,18 @@ use Rattle.rows.specs.Key.{rowCount}
 use Rattle.sentence.specs.Sentence.{GsvSentence, answer, isGsv}
 use Rattle.short.specs.Room.{Written}
 use Rattle.short.proofs.Answered.{answered}
-use Rattle.gather.specs.Lent.{stands}
-use Rattle.gather.specs.Put.{rowOf, emptyRow}
-use Rattle.gather.specs.Table.{freshGatherer}
+use Rattle.gather.specs.Words.{openOf, stands}
+use Rattle.gather.specs.Table.{freshTable, tableOf}
 use Rattle.gather.specs.Run.{run}
-use Rattle.gather.specs.declared.row.Row.{Row}
-use Rattle.gather.specs.declared.table.Gatherer.{Gatherer}
-use Rattle.gather.proofs.Meaning.{Typed}
-use Rattle.gather.proofs.Tables.{each-at}
-use Rattle.gather.proofs.LentRows.{not-empty, lent-exactly}
-use Rattle.fed.specs.Line.{read, saidOf, saidAll, gsvOf, gathers}
-use Rattle.fed.specs.Seen.{seenOf}
+use Rattle.gather.proofs.LentRows.{left-stands, lent-exactly}
+use Rattle.fed.specs.Line.{read, saidOf, saidAll, gsvOf, Gatherer, gathers}
 use Rattle.fed.specs.Fed.{gathered}
-use Rattle.fed.proofs.Handing.{holds}
-use Rattle.log.specs.Told.{says, told}
+use Rattle.log.specs.Told.{says}
 
--- the lines of some log leave this row at κ of a fresh gatherer, and it is not the empty one
-pub record LeftByLog (κ : ℕ) (r : Row) : Type 0 where
+-- the lines of some log leave in row κ of a fresh table the run that these words hold
+pub record LeftByLog (κ : ℕ) (ws : List ℕ) : Type 0 where
   pub log : List ℕ
-  pub leaves : getD (gathered freshGatherer (says log) .rows) κ emptyRow ≡ r
-  pub standing : r ≡ emptyRow → ⊥
+  pub leaves : tableOf (gathered freshTable (says log)) κ ≡ some (openOf ws)
 
 -- what is accepted is no blank line
 accepted-said : (l : List ℕ) (s : GsvSentence) → answer l ≡ isGsv s → gsvOf (saidOf l) ≡ some s
@@ -69,19 +60,13 @@ text-fed g (s ∷ ss) w =
     ∙ text-fed (gathers g (some s) .gatherer) ss (w .1)
 
 -- THE THEOREM
-pub lent-by-log : (κ : ℕ) → κ < rowCount → (r : Row) → Typed r → (stands r ≡ true) ↔ LeftByLog κ r
-lent-by-log κ h r t = (
+pub lent-by-log : (κ : ℕ) → κ < rowCount → (ws : List ℕ) → length ws ≡ 148 → (stands ws ≡ true) ↔ LeftByLog κ ws
+lent-by-log κ h ws long = (
   λ e.
-      let l = lent-exactly κ h r t .0 e in
+      let l = lent-exactly κ h ws long .0 e in
       record {
         log = text (l .lines) (l .written);
-        leaves = ap (λ (g : Gatherer). getD (g .rows) κ emptyRow) (text-fed freshGatherer (l .lines) (l .written)) ∙ l .leaves;
-        standing = l .standing;
+        leaves = ap (λ (t : Gatherer). tableOf t κ) (text-fed freshTable (l .lines) (l .written)) ∙ l .leaves;
       },
-  λ l.
-      let (e, s) = holds fresh (lines (l .log)) (λ κ. tt) in
-      let table = after fresh (told (l .log)) in
-      let same : rowOf (table κ) ≡ r =
-      sym (ap (λ (g : Gatherer). getD (g .rows) κ emptyRow) e ∙ each-at rowOf table κ emptyRow h) ∙ l .leaves in
-      sym (ap stands same) ∙ not-empty (table κ) (s κ) (λ z. l .standing (sym same ∙ z)),
+  λ l. left-stands ws (gathered freshTable (says (l .log))) κ long (l .leaves),
 )

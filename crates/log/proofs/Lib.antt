@@ -13,7 +13,5 @@ pub mod Damage
 pub mod Demand
 pub mod LentLog
 pub mod Quiet
-pub mod Runs
-pub mod Counting
 pub mod Instances
 pub mod Worked

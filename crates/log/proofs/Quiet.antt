@@ -10,8 +10,7 @@ use lib.ListN.{length}
 use Rattle.frame.specs.Refused.{Refused, logTooLong, badPlace}
 use Rattle.sentence.specs.Sentence.{isRefused}
 use Rattle.lines.specs.Places.{isPlace, lineAt, nextPlace}
-use Rattle.gather.specs.declared.table.Gatherer.{Gatherer}
-use Rattle.fed.specs.Line.{Said, blank, read, saidOf, gsvOf, untouched, gathers}
+use Rattle.fed.specs.Line.{Said, blank, read, saidOf, gsvOf, Gatherer, untouched, gathers}
 use Rattle.log.specs.Step.{longest, Step, refused, end, line, Stepped, idle, stepAt, stepOf}
 
 -- a step's answer that is no accepted GSV line

@@ -12,8 +12,7 @@ use lib.Seq.{take-nil}
 use Rattle.lines.specs.Lines.{lines}
 use Rattle.lines.specs.Places.{isPlace, rest, lineAt, nextPlace}
 use Rattle.lines.proofs.Next.{next-place, drop-next, lines-here, lines-end}
-use Rattle.gather.specs.declared.table.Gatherer.{Gatherer}
-use Rattle.fed.specs.Line.{Said, saidOf, saidAll, gsvOf, gathers, isBlank, isAccepted, isRefusal}
+use Rattle.fed.specs.Line.{Said, saidOf, saidAll, gsvOf, Gatherer, gathers, isBlank, isAccepted, isRefusal}
 use Rattle.fed.specs.Fed.{onceIf, isHanded, howMany, gathered, groupsOf}
 use Rattle.fed.proofs.Counts.{every-line}
 use Rattle.log.specs.declared.walk.Counts.{Counts}

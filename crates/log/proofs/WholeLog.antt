@@ -14,9 +14,8 @@ use Rattle.groups.specs.Log.{Handed}
 use Rattle.groups.specs.Group.{HandedOut}
 use Rattle.groups.specs.Count.{Many}
 use Rattle.gsv.specs.Gsv.{Satellite}
-use Rattle.gather.specs.Table.{freshGatherer}
-use Rattle.gather.specs.declared.table.Gatherer.{Gatherer}
-use Rattle.fed.specs.Line.{Said, saidOf, saidAll, isBlank, isAccepted, isRefusal}
+use Rattle.gather.specs.Table.{freshTable}
+use Rattle.fed.specs.Line.{Said, saidOf, saidAll, isBlank, isAccepted, isRefusal, Gatherer}
 use Rattle.fed.specs.Fed.{howMany, gathered, groupsOf}
 use Rattle.fed.proofs.Groups.{groups-counted}
 use Rattle.log.specs.declared.walk.Counts.{Counts}
@@ -92,10 +91,10 @@ module _ (log : List ℕ) where
   whole-log = whole-walk (length log) (at-most-bytes log)
 
   -- THE THEOREM: the groups of the log's totals are the indices of lines at which the definition hands one out
-  pub whole-groups : (c : Counts) → walkOf log 0 (length log) freshGatherer .answer ≡ went c
+  pub whole-groups : (c : Counts) → walkOf log 0 (length log) freshTable .answer ≡ went c
       → Many (λ i. (h : Handed Satellite) × HandedOut (told log) i h) (c .groups)
   whole-groups c e =
-      let (short, _) = not-barred log 0 (length log) freshGatherer c e in
-      let q : went (wholeOf log freshGatherer .counts) ≡ went c = ap (λ (w : Walked). w .answer) (sym (whole-log short freshGatherer)) ∙ e in
-      let z : wholeOf log freshGatherer .counts ≡ c = cc in
+      let (short, _) = not-barred log 0 (length log) freshTable c e in
+      let q : went (wholeOf log freshTable .counts) ≡ went c = ap (λ (w : Walked). w .answer) (sym (whole-log short freshTable)) ∙ e in
+      let z : wholeOf log freshTable .counts ≡ c = cc in
       subst (λ (d : Counts). Many (λ i. (h : Handed Satellite) × HandedOut (told log) i h) (d .groups)) z (groups-counted (lines log))

@@ -24,10 +24,10 @@ use Rattle.lines.specs.Places.{isPlace, stretch, rest, lineAt, nextPlace}
 use Rattle.pack.specs.Cut.{more}
 use Rattle.short.specs.Digits.{digitsOf, digitsFor}
 use Rattle.short.specs.Texts.{entryText}
-use Rattle.gather.specs.Table.{freshGatherer}
+use Rattle.gather.specs.Table.{freshTable}
+use Rattle.log.specs.Told.{told}
 use Rattle.log.specs.Step.{refused, end, stepAt, stepOf}
 use Rattle.log.specs.Walk.{steps, barred, went, Walked, walkOf}
-use Rattle.log.specs.Told.{told}
 use Rattle.log.specs.declared.walk.Counts.{Counts}
 
 -- what is handed out at each line: row, n, in-view count and satellites
@@ -193,18 +193,18 @@ worked =
 abbrev counts : ℕ → ℕ → ℕ → ℕ → ℕ → ℕ → Counts
 counts l b a r g p = record { lines = l; blank = b; accepted = a; refused = r; groups = g; next = p }
 
-worked-log : walkOf worked 0 9 freshGatherer .answer ≡ went (counts 5 1 3 1 1 217)
+worked-log : walkOf worked 0 9 freshTable .answer ≡ went (counts 5 1 3 1 1 217)
 unfolding lines stretches trim answer dispatch frame sized sentence sentenceType checksumField taken known hex digit checksumFrom types alike listed follow utf8Step after ascii until char oneOf among letterOf _>>=_ pure opt alt orMiss number numberFrom rowOf gsv entry counted cell closing many skip takeWhile1 eof allConsuming oneOf3 gsa emptyTail lastSystem fullTail prnFields item dop dops systemAfterComma optSystem isPlace stretch rest lineAt nextPlace steps stepAt stepOf walkOf more digitsOf digitsFor entryText
 worked-log = refl
 
 -- nothing allowed, nothing taken
-allowed-none : walkOf worked 0 0 freshGatherer .answer ≡ went (counts 0 0 0 0 0 0)
+allowed-none : walkOf worked 0 0 freshTable .answer ≡ went (counts 0 0 0 0 0 0)
 unfolding lines stretches trim answer dispatch frame sized sentence sentenceType checksumField taken known hex digit checksumFrom types alike listed follow utf8Step after ascii until char oneOf among letterOf _>>=_ pure opt alt orMiss number numberFrom rowOf gsv entry counted cell closing many skip takeWhile1 eof allConsuming oneOf3 gsa emptyTail lastSystem fullTail prnFields item dop dops systemAfterComma optSystem isPlace stretch rest lineAt nextPlace steps stepAt stepOf walkOf more digitsOf digitsFor entryText
 allowed-none = refl
 
 -- two lines, and the others from there on with the gatherer that they left: the group is handed out in the second walk
 abbrev two : Walked
-two = walkOf worked 0 2 freshGatherer
+two = walkOf worked 0 2 freshTable
 
 allowed-two : two .answer ≡ went (counts 2 0 2 0 0 138)
 unfolding lines stretches trim answer dispatch frame sized sentence sentenceType checksumField taken known hex digit checksumFrom types alike listed follow utf8Step after ascii until char oneOf among letterOf _>>=_ pure opt alt orMiss number numberFrom rowOf gsv entry counted cell closing many skip takeWhile1 eof allConsuming oneOf3 gsa emptyTail lastSystem fullTail prnFields item dop dops systemAfterComma optSystem isPlace stretch rest lineAt nextPlace steps stepAt stepOf walkOf more digitsOf digitsFor entryText
@@ -215,20 +215,20 @@ unfolding lines stretches trim answer dispatch frame sized sentence sentenceType
 carried = refl
 
 -- with a fresh gatherer it is not
-not-carried : walkOf worked 138 9 freshGatherer .answer ≡ went (counts 3 1 1 1 0 217)
+not-carried : walkOf worked 138 9 freshTable .answer ≡ went (counts 3 1 1 1 0 217)
 unfolding lines stretches trim answer dispatch frame sized sentence sentenceType checksumField taken known hex digit checksumFrom types alike listed follow utf8Step after ascii until char oneOf among letterOf _>>=_ pure opt alt orMiss number numberFrom rowOf gsv entry counted cell closing many skip takeWhile1 eof allConsuming oneOf3 gsa emptyTail lastSystem fullTail prnFields item dop dops systemAfterComma optSystem isPlace stretch rest lineAt nextPlace steps stepAt stepOf walkOf more digitsOf digitsFor entryText
 not-carried = refl
 
 -- no places: within a line, and past the end
-within-a-line : (walkOf worked 3 9 freshGatherer .answer ≡ barred (badPlace 3)) × (stepOf worked 3 freshGatherer .answer ≡ refused (badPlace 3))
+within-a-line : (walkOf worked 3 9 freshTable .answer ≡ barred (badPlace 3)) × (stepOf worked 3 freshTable .answer ≡ refused (badPlace 3))
 unfolding lines stretches trim answer dispatch frame sized sentence sentenceType checksumField taken known hex digit checksumFrom types alike listed follow utf8Step after ascii until char oneOf among letterOf _>>=_ pure opt alt orMiss number numberFrom rowOf gsv entry counted cell closing many skip takeWhile1 eof allConsuming oneOf3 gsa emptyTail lastSystem fullTail prnFields item dop dops systemAfterComma optSystem isPlace stretch rest lineAt nextPlace steps stepAt stepOf walkOf more digitsOf digitsFor entryText
 within-a-line = (refl, refl)
 
-past-the-end : stepOf worked 218 freshGatherer .answer ≡ refused (badPlace 218)
+past-the-end : stepOf worked 218 freshTable .answer ≡ refused (badPlace 218)
 unfolding lines stretches trim answer dispatch frame sized sentence sentenceType checksumField taken known hex digit checksumFrom types alike listed follow utf8Step after ascii until char oneOf among letterOf _>>=_ pure opt alt orMiss number numberFrom rowOf gsv entry counted cell closing many skip takeWhile1 eof allConsuming oneOf3 gsa emptyTail lastSystem fullTail prnFields item dop dops systemAfterComma optSystem isPlace stretch rest lineAt nextPlace steps stepAt stepOf walkOf more digitsOf digitsFor entryText
 past-the-end = refl
 
 -- at the length
-at-the-length : (stepOf worked 217 freshGatherer .answer ≡ end 217) × (walkOf worked 217 9 freshGatherer .answer ≡ went (counts 0 0 0 0 0 217))
+at-the-length : (stepOf worked 217 freshTable .answer ≡ end 217) × (walkOf worked 217 9 freshTable .answer ≡ went (counts 0 0 0 0 0 217))
 unfolding lines stretches trim answer dispatch frame sized sentence sentenceType checksumField taken known hex digit checksumFrom types alike listed follow utf8Step after ascii until char oneOf among letterOf _>>=_ pure opt alt orMiss number numberFrom rowOf gsv entry counted cell closing many skip takeWhile1 eof allConsuming oneOf3 gsa emptyTail lastSystem fullTail prnFields item dop dops systemAfterComma optSystem isPlace stretch rest lineAt nextPlace steps stepAt stepOf walkOf more digitsOf digitsFor entryText
 at-the-length = (refl, refl)

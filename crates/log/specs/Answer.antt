@@ -22,7 +22,6 @@ use Rattle.log.specs.declared.step.Stepped.the-variants as stepped
 use Rattle.log.specs.declared.step.StepAnswer.{StepAnswer}
 use Rattle.log.specs.declared.walk.Walked as CodeWalk
 use Rattle.log.specs.declared.walk.Walked.the-variants as walked
-use Rattle.log.specs.declared.walk.WalkAnswer.{WalkAnswer}
 
 -- with the satellites that stand beside it
 abbrev pub saidIn : List ℕ → Code.Said → Said
@@ -52,18 +51,18 @@ pub record Cells (xs : List ℕ) (cells : List ℕ) (count : ℕ) : Type 0 where
   pub are : cells ≡ row xs
   pub number : count ≡ length xs
 
-pub record SaysStep (s : Stepped) (r : StepAnswer) : Type 0 where
+pub record SaysStep (s : Stepped) (after : List ℕ) (r : StepAnswer) : Type 0 where
   pub says : stepIn (take (r .count) (r .satellites)) (r .stepped) ≡ s .answer
   pub beside : Cells (besideStep (s .answer)) (r .satellites) (r .count)
-  pub gathered : record { gatherer = r .gatherer; handed = r .handed; group = r .group } ≡ s .gathered
+  pub gathered : record { gatherer = after; handed = r .handed } ≡ s .gathered
 
 abbrev pub walkIn : CodeWalk.Walked → Walk
 walkIn (walked.Refused r) = barred (refusal r)
 walkIn (walked.Went c) = went c
 
-pub record SaysWalk (w : Walked) (r : WalkAnswer) : Type 0 where
-  pub says : walkIn (r .walked) ≡ w .answer
-  pub gatherer : r .gatherer ≡ w .gatherer
+pub record SaysWalk (w : Walked) (after : List ℕ) (r : CodeWalk.Walked) : Type 0 where
+  pub says : walkIn r ≡ w .answer
+  pub gatherer : after ≡ w .gatherer
 
 -- for the code: the line at a place that is not the end, and the place after it
 pub record SaysHere (log : List ℕ) (p : ℕ) (r : Here) : Type 0 where

@@ -2,25 +2,17 @@
 use Prim.Native.Nat.{ℕ, _+_, _-_, _≤_}
 use mathlib.Core.Path.{_≡_}
 use mathlib.Core.List.{List, []}
-use mathlib.Core.Bool.{Bool, true, false}
-use mathlib.Core.Option.{Option, none, some}
+use mathlib.Core.Bool.{Bool, false}
+use mathlib.Core.Option.{none}
 use lib.ListN.{length, take, drop}
 use Rattle.gsa.specs.Answer.{row}
-use Rattle.sentence.specs.Sentence.{isRmc, isGsa, isGsv, isOther, isRefused, GsvSentence}
+use Rattle.sentence.specs.Sentence.{isRmc, isGsa, isGsv, isOther, isRefused}
 use Rattle.lines.specs.Lines.{lineFeed}
 use Rattle.lines.specs.Places.{lineAt, stretch}
-use Rattle.groups.specs.Step.{Open, Out, sofar, step}
-use Rattle.gsv.specs.Gsv.{Satellite}
-use Rattle.rows.specs.Line.{lineOf}
-use Rattle.rows.specs.Leave.{Stands}
-use Rattle.gather.specs.Put.{noGroup, isSome}
-use Rattle.gather.specs.declared.table.Gatherer.{Gatherer}
-use Rattle.gather.specs.declared.table.Handed.the-variants.{Nothing}
+use Rattle.gather.specs.declared.line.Outcome.the-variants.{Nothing}
 use Rattle.fed.specs.Line.{Said, blank, read}
 use Rattle.log.specs.declared.step.Stepped.{Stepped}
 use Rattle.log.specs.declared.step.StepAnswer.{StepAnswer}
-use Rattle.log.specs.declared.totals.Run.{Run}
-use Rattle.log.specs.declared.totals.Turn.{Turn}
 use Rattle.log.specs.declared.walk.Counts.{Counts}
 use Rattle.log.specs.declared.walk.Sort.{Sort}
 use Rattle.log.specs.declared.walk.Sort.the-variants.{Blank, Accepted, Refused}
@@ -39,8 +31,8 @@ Saw feed b r = r ≡ false → (feed ≡ false) × (b ≡ lineFeed → ⊥)
 abbrev pub Clear : List ℕ → ℕ → ℕ → Bool → Type 0
 Clear log p n r = r ≡ false → length (stretch (drop p log)) ≡ n + length (stretch (drop (p + n) log))
 
-abbrev pub idleOf : Stepped → Gatherer → StepAnswer
-idleOf s g = record { stepped = s; satellites = row []; count = 0; handed = Nothing; group = noGroup; gatherer = g }
+abbrev pub idleOf : Stepped → StepAnswer
+idleOf s = record { stepped = s; satellites = row []; count = 0; handed = Nothing }
 
 abbrev pub sortOf : Said → Sort
 sortOf blank = Blank
@@ -64,27 +56,3 @@ pub record Within (c : Counts) : Type 0 where
   pub blank : c .blank ≤ 65536
   pub accepted : c .accepted ≤ 65536
   pub refused : c .refused ≤ 65536
-
--- the numbers of a run, without its entries
-abbrev pub noRun : Run
-noRun = record { n = 0; next = 0; view = 0 }
-
-abbrev pub runOf : Option (Open Satellite) → Run
-runOf none = noRun
-runOf (some o) = record { n = o .n; next = o .next; view = o .view }
-
-abbrev pub turnOf : Out Satellite → Turn
-turnOf o = record { run = runOf (o .row); handed = isSome (o .group) }
-
-abbrev pub isRun : Option (List Satellite) → Bool
-isRun none = false
-isRun (some es) = true
-
--- whatever run with these numbers stands, the line starts one or goes on with it
-pub record Follows (run : Run) (s : GsvSentence) (r : Bool) : Type 0 where
-  pub right : (x : Option (Open Satellite)) → Stands x → runOf x ≡ run → isRun (sofar x (lineOf s)) ≡ r
-  pub early : r ≡ true → s .body .index ≤ 9
-
--- and this is what it does to it
-abbrev pub Turns : Run → GsvSentence → Turn → Type 0
-Turns run s r = (x : Option (Open Satellite)) → Stands x → runOf x ≡ run → r ≡ turnOf (step x (lineOf s))

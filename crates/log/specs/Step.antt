@@ -6,9 +6,7 @@ use lib.Dec.{eqb, ltb}
 use lib.ListN.{length}
 use Rattle.frame.specs.Refused.{Refused, logTooLong, badPlace}
 use Rattle.lines.specs.Places.{isPlace, lineAt, nextPlace}
-use Rattle.gather.specs.declared.table.Gatherer.{Gatherer}
-use Rattle.gather.specs.declared.table.Gathered.{Gathered}
-use Rattle.fed.specs.Line.{Said, saidOf, gsvOf, untouched, gathers}
+use Rattle.fed.specs.Line.{Said, saidOf, gsvOf, Gatherer, Gathered, untouched, gathers}
 
 -- "a log has at most 65,536 bytes"
 abbrev pub longest : ℕ

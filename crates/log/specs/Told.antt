@@ -1,13 +1,15 @@
 -- A log's lines, as they are read and as the theory of groups sees them, and the steps from its first line on.
 use Prim.Native.Nat.{ℕ}
 use mathlib.Core.List.{List}
+use mathlib.Core.Path.{_≡_}
 use mathlib.Core.Option.{Option, none, some}
 use Rattle.gsv.specs.Gsv.{Satellite}
-use Rattle.groups.specs.Log.{Line}
+use Rattle.groups.specs.Log.{Line, Handed}
 use Rattle.lines.specs.Lines.{lines}
-use Rattle.gather.specs.Table.{freshGatherer}
-use Rattle.fed.specs.Line.{Said, saidAll}
-use Rattle.fed.specs.Seen.{seenOf}
+use Rattle.sentence.specs.Sentence.{GsvSentence}
+use Rattle.gather.specs.Table.{freshTable}
+use Rattle.fed.specs.Line.{Said, saidAll, gsvOf}
+use Rattle.fed.specs.Seen.{seenOf, givenBy}
 use Rattle.log.specs.Step.{Step, refused, end, line, Stepped, stepOf}
 use Rattle.log.specs.Walk.{begin, steps}
 
@@ -21,7 +23,7 @@ told log = seenOf (says log)
 -- the step after i steps, "place 0 and a fresh gatherer" before the first
 abbrev pub stepAfter : ℕ → List ℕ → Stepped
 stepAfter i log =
-    let w = steps i log (begin 0 freshGatherer) in
+    let w = steps i log (begin 0 freshTable) in
     stepOf log (w .counts .next) (w .gatherer)
 
 -- the line that a step answers
@@ -29,3 +31,12 @@ abbrev pub lineIn : Step → Option Said
 lineIn (refused r) = none
 lineIn (end p) = none
 lineIn (line s p) = some s
+
+-- the accepted GSV sentence that a step answers, and the group that it hands out
+abbrev pub gsvIn : Step → Option GsvSentence
+gsvIn (refused r) = none
+gsvIn (end p) = none
+gsvIn (line s p) = gsvOf s
+
+abbrev pub Gives : Stepped → Handed Satellite → Type 0
+Gives s h = givenBy (gsvIn (s .answer)) (s .gathered) ≡ some h

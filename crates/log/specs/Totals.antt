@@ -4,8 +4,7 @@ use mathlib.Core.List.{List}
 use lib.ListN.{length, take, drop}
 use Rattle.lines.specs.Lines.{lines}
 use Rattle.lines.specs.Places.{rest}
-use Rattle.gather.specs.declared.table.Gatherer.{Gatherer}
-use Rattle.fed.specs.Line.{Said, saidAll, isBlank, isAccepted, isRefusal}
+use Rattle.fed.specs.Line.{Said, saidAll, isBlank, isAccepted, isRefusal, Gatherer}
 use Rattle.fed.specs.Fed.{howMany, gathered, groupsOf}
 use Rattle.log.specs.Walk.{Going}
 

@@ -7,9 +7,7 @@ use lib.ListN.{length, drop}
 use Rattle.frame.specs.Refused.{Refused, logTooLong, badPlace}
 use Rattle.lines.specs.Lines.{lines}
 use Rattle.lines.specs.Places.{isPlace}
-use Rattle.gather.specs.declared.table.Gatherer.{Gatherer}
-use Rattle.gather.specs.declared.table.Gathered.{Gathered}
-use Rattle.fed.specs.Line.{Said, isBlank, isAccepted, isRefusal}
+use Rattle.fed.specs.Line.{Said, isBlank, isAccepted, isRefusal, Gatherer, Gathered}
 use Rattle.fed.specs.Fed.{onceIf, isHanded}
 use Rattle.log.specs.Step.{longest, Step, refused, end, line, stepOf}
 use Rattle.log.specs.declared.walk.Counts.{Counts}

@@ -1,4 +1,4 @@
-// One step: the line at a place, at most one group, and the next place.
+// One step: the line at a place, what it says of its row, and the next place.
 ghost use mathlib.Core.Path.{_≡_};
 ghost use Rattle.log.specs.Step.{stepOf};
 ghost use Rattle.log.specs.Answer.{SaysStep};
@@ -7,11 +7,7 @@ use crate::line;
 use crate::line::Found;
 use crate::line::Said;
 use frame::Refusal;
-use gather::row;
-use gather::row::Group;
-use gather::table;
-use gather::table::Gatherer;
-use gather::table::Handed;
+use gather::line::Outcome;
 
 // A refusal alone, the end, or a line and the next place.
 pub enum Stepped {
@@ -20,44 +16,39 @@ pub enum Stepped {
     Line(Said, usize),
 }
 
-// One step's answer. Where no group is handed out, its cells are empty.
+// One step's answer. Where its row is complete, the words of the row are the group.
 pub struct StepAnswer {
     pub stepped: Stepped,
     pub satellites: [u32; line::CELLS],
     pub count: usize,
-    pub handed: Handed,
-    pub group: Group,
-    pub gatherer: Gatherer,
+    pub handed: Outcome,
 }
 
-// No line: no satellites, no group, and the gatherer as it was.
-fn idle(stepped: Stepped, g: Gatherer) -> StepAnswer
-    ensures { λ r. ⌜ r ≡ idleOf stepped g ⌝ }
+// No line: no satellites, and no row.
+fn idle(stepped: Stepped) -> StepAnswer
+    ensures { λ r. ⌜ r ≡ idleOf stepped ⌝ }
 {
-    let handed = Handed::Nothing;
-    let group = row::no_group();
+    let handed = Outcome::Nothing;
     StepAnswer {
         stepped: stepped,
         satellites: [0u32; line::CELLS],
         count: 0,
         handed: handed,
-        group: group,
-        gatherer: g,
     }
 }
 
-// The step at a place of a log, with the gatherer as it was left.
-pub fn step(log: &[u8], place: usize, g: Gatherer) -> StepAnswer
-    ensures { λ r. ⌜ SaysStep (stepOf (now (log .entry)) place g) r × (now (log .exit) ≡ now (log .entry)) ⌝ }
+// The step at a place of a log, with the gatherer's words as they were left.
+pub fn step(log: &[u8], place: usize, words: &mut [u32]) -> StepAnswer
+    ensures { λ r. ⌜ SaysStep (stepOf (now (log .entry)) place (now (words .entry))) (now (words .exit)) r × (now (log .exit) ≡ now (log .entry)) ⌝ }
 {
     if line::LONGEST < log.len() {
-        return idle(Stepped::Refused(Refusal::LogTooLong(log.len())), g);
+        return idle(Stepped::Refused(Refusal::LogTooLong(log.len())));
     }
     if !line::is_place(log, place) {
-        return idle(Stepped::Refused(Refusal::BadPlace(place)), g);
+        return idle(Stepped::Refused(Refusal::BadPlace(place)));
     }
     if place == log.len() {
-        return idle(Stepped::End(place), g);
+        return idle(Stepped::End(place));
     }
     let h = line::line_here(log, place);
     let said = h.said;
@@ -67,27 +58,19 @@ pub fn step(log: &[u8], place: usize, g: Gatherer) -> StepAnswer
     let stepped = Stepped::Line(said, next);
     let found = line::gsv_of(said);
     let Found::Is(report) = found else {
-        let handed = Handed::Nothing;
-        let group = row::no_group();
+        let handed = Outcome::Nothing;
         return StepAnswer {
             stepped: stepped,
             satellites: satellites,
             count: count,
             handed: handed,
-            group: group,
-            gatherer: g,
         };
     };
-    let done = table::gather(g, report);
-    let handed = done.handed;
-    let group = done.group;
-    let gatherer = done.gatherer;
+    let handed = gather::table::gather(&mut *words, report);
     StepAnswer {
         stepped: stepped,
         satellites: satellites,
         count: count,
         handed: handed,
-        group: group,
-        gatherer: gatherer,
     }
 }

@@ -2,17 +2,18 @@
 ghost use mathlib.Core.Path.{_≡_};
 ghost use mathlib.Core.List.{[]};
 ghost use Prim.Native.Nat.{_≤_};
+ghost use lib.ListN.{length};
+ghost use Rattle.gather.specs.Table.{freshTable};
+ghost use Rattle.fed.specs.Fed.{isHanded};
 ghost use Rattle.log.specs.Walk.{grouped, walkOf};
-ghost use Rattle.log.specs.Answer.{saidIn, SaysWalk};
+ghost use Rattle.log.specs.Answer.{saidIn, walkIn, SaysWalk};
 ghost use Rattle.log.specs.Code.{sortOf, talliedBy, Within};
 use crate::line;
 use crate::line::Found;
 use crate::line::Said;
 use frame::Refusal;
-use gather::line::put_row;
-use gather::table;
-use gather::table::Gatherer;
 use sentence::Record;
+use gather::line::Outcome;
 
 // What was counted, and the place where the next line begins.
 pub struct Counts {
@@ -28,11 +29,6 @@ pub struct Counts {
 pub enum Walked {
     Refused(Refusal),
     Went(Counts),
-}
-
-pub struct WalkAnswer {
-    pub walked: Walked,
-    pub gatherer: Gatherer,
 }
 
 // What a line counts as.
@@ -108,25 +104,28 @@ pub(crate) fn with_group(c: Counts, handed: bool) -> Counts
     c
 }
 
-// At most `allowance` lines from a place on. Only the row of an accepted GSV line is copied, and back.
-pub fn walk(log: &[u8], place: usize, allowance: usize, g: Gatherer) -> WalkAnswer
-    ensures { λ r. ⌜ SaysWalk (walkOf (now (log .entry)) place allowance g) r × (now (log .exit) ≡ now (log .entry)) ⌝ }
+// A row is complete.
+fn is_handed(o: Outcome) -> bool
+    ensures { λ r. ⌜ r ≡ isHanded o ⌝ }
+{
+    match o {
+        Outcome::NoRow => false,
+        Outcome::Nothing => false,
+        Outcome::Waiting => false,
+        Outcome::Complete => true,
+    }
+}
+
+// At most `allowance` lines from a place on. The gatherer's words are changed in place.
+pub fn walk(log: &[u8], place: usize, allowance: usize, words: &mut [u32]) -> Walked
+    ensures { λ r. ⌜ SaysWalk (walkOf (now (log .entry)) place allowance (now (words .entry))) (now (words .exit)) r × (now (log .exit) ≡ now (log .entry)) ⌝ }
 {
     if line::LONGEST < log.len() {
-        let walked = Walked::Refused(Refusal::LogTooLong(log.len()));
-        return WalkAnswer {
-            walked,
-            gatherer: g,
-        };
+        return Walked::Refused(Refusal::LogTooLong(log.len()));
     }
     if !line::is_place(log, place) {
-        let walked = Walked::Refused(Refusal::BadPlace(place));
-        return WalkAnswer {
-            walked,
-            gatherer: g,
-        };
+        return Walked::Refused(Refusal::BadPlace(place));
     }
-    let mut after = g;
     let mut c = Counts {
         lines: 0,
         blank: 0,
@@ -149,17 +148,17 @@ pub fn walk(log: &[u8], place: usize, allowance: usize, g: Gatherer) -> WalkAnsw
         let Found::Is(report) = found else {
             continue;
         };
-        let system = report.system;
-        let key = table::row_of(system);
-        let row = after.rows[key];
-        let out = put_row(row, report);
-        let left = out.row;
-        after.rows[key] = left;
-        c = with_group(c, out.handed);
+        let out = gather::table::gather(&mut *words, report);
+        let handed = is_handed(out);
+        c = with_group(c, handed);
     }
-    let walked = Walked::Went(c);
-    WalkAnswer {
-        walked,
-        gatherer: after,
-    }
+    Walked::Went(c)
+}
+
+// The whole log from its start, with a fresh table of its own.
+pub fn totals(log: &[u8]) -> Walked
+    ensures { λ r. ⌜ (walkIn r ≡ walkOf (now (log .entry)) 0 (length (now (log .entry))) freshTable .answer) × (now (log .exit) ≡ now (log .entry)) ⌝ }
+{
+    let mut words = [0u32; gather::table::WORDS];
+    walk(log, 0, log.len(), &mut words)
 }

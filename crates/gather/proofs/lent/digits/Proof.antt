@@ -1,3 +1,4 @@
+-- `digits` meets its contract: the loop: a digit for each tenth. Assumes nothing.
 use Prim.Native.Nat.{_+_, _≤_}
 use mathlib.Core.Path.{_≡_}
 use native.Mathlib.Omega.{arith}
@@ -7,8 +8,6 @@ use Rattle.short.proofs.Digits.{few-digits, some-digit, count-tenth}
 use Rattle.gather.proofs.Greedy.{one}
 use Rattle.gather.proofs.lent.digits.Statement.{statement}
 use Rattle.gather.proofs.lent.digits.Tie as tie
-use Rattle.gather.proofs.lent.digits.Reads as reads
-use Rattle.gather.proofs.lent.digits.Lts as lts
 
 abbrev Inv-loop : tie.InvT-loop
 Inv-loop x n₀ k₀ n k = (length (digitsOf x) + 1 ≡ k + length (digitsOf n)) × (length (digitsOf x) ≤ 10)

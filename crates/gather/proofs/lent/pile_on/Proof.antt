@@ -1,10 +1,9 @@
+-- `pile_on` meets its contract: by whether there is room. Assumes nothing.
 use native.Mathlib.Omega.{arith}
 use Rattle.gather.proofs.Greedy.{put-here, put-full, put-over}
 use borrow.Author.Needs.{needs}
 use Rattle.gather.proofs.lent.pile_on.Statement.{statement}
 use Rattle.gather.proofs.lent.pile_on.Tie as tie
-use Rattle.gather.proofs.lent.pile_on.Reads as reads
-use Rattle.gather.proofs.lent.pile_on.Lts as lts
 
 add-t6 : tie.Need-add-t6
 add-t6 c = search needs

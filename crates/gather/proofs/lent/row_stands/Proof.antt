@@ -1,23 +1,33 @@
-use borrow.Author.Tests.{le-leb, lt-leb}
+-- `row_stands` meets its contract: test by test; short entries are only counted, by `Quick`. Assumes nothing.
+use mathlib.Core.Path.{sym, _∙_}
+use denote.Ref.{now}
+use borrow.Author.Tests.{le-leb, lt-leb, eq-eqb, ne-eqb}
 use Rattle.gather.proofs.Tests.{failed, passed}
+use Rattle.gather.proofs.Quick.{Head, many-fails, short-stands, unreadable, exact}
 use borrow.Author.Needs.{needs}
 use Rattle.gather.proofs.lent.row_stands.Statement.{statement}
 use Rattle.gather.proofs.lent.row_stands.Tie as tie
-use Rattle.gather.proofs.lent.row_stands.Reads as reads
-use Rattle.gather.proofs.lent.row_stands.Lts as lts
-use Rattle.gather.proofs.lent.cells_good.Reads as cells-good-reads
-use Rattle.gather.proofs.lent.pieces.Reads as pieces-reads
 
 returns : tie.Need-returns
-returns c = simp (lt-leb _ _ (c .if1 .taken))
+returns c = simp (ne-eqb _ _ (c .if1 .taken))
+
+shared-slice-read-next : tie.Need-shared-slice-read-next
+shared-slice-read-next c = search needs
 
 returns-2 : tie.Need-returns-2
-returns-2 c = simp (le-leb _ _ (c .before .before .if1 .left), lt-leb _ _ (c .if2 .taken))
+returns-2 c =
+    simp (
+      eq-eqb _ _ (c .before .before .if1 .left),
+      lt-leb _ _ (c .if2 .taken),
+    )
+
+shared-slice-read-n : tie.Need-shared-slice-read-n
+shared-slice-read-n c = search needs
 
 returns-3 : tie.Need-returns-3
 returns-3 c =
     simp (
-      le-leb _ _ (c .before .before .before .before .if1 .left),
+      eq-eqb _ _ (c .before .before .before .before .if1 .left),
       le-leb _ _ (c .before .before .if2 .left),
       lt-leb _ _ (c .if3 .taken),
     )
@@ -25,69 +35,112 @@ returns-3 c =
 returns-4 : tie.Need-returns-4
 returns-4 c =
     simp (
-      le-leb _ _ (c .before .before .before .before .before .if1 .left),
+      eq-eqb _ _ (c .before .before .before .before .before .if1 .left),
       le-leb _ _ (c .before .before .before .if2 .left),
       le-leb _ _ (c .before .if3 .left),
       lt-leb _ _ (c .if4 .taken),
     )
 
+shared-slice-read-view : tie.Need-shared-slice-read-view
+shared-slice-read-view c = search needs
+
 returns-5 : tie.Need-returns-5
 returns-5 c =
     simp (
-      le-leb _ _ (c .before .before .before .before .before .before .if1 .left),
-      le-leb _ _ (c .before .before .before .before .if2 .left),
-      le-leb _ _ (c .before .before .if3 .left),
-      le-leb _ _ (c .before .if4 .left),
+      eq-eqb _ _ (c .before .before .before .before .before .before .before .if1 .left),
+      le-leb _ _ (c .before .before .before .before .before .if2 .left),
+      le-leb _ _ (c .before .before .before .if3 .left),
+      le-leb _ _ (c .before .before .if4 .left),
       lt-leb _ _ (c .if5 .taken),
     )
 
-cells-good-requires : tie.Need-cells-good-requires
-cells-good-requires c κs = search needs
+shared-slice-read-many : tie.Need-shared-slice-read-many
+shared-slice-read-many c = search needs
 
 returns-6 : tie.Need-returns-6
-returns-6 c =
-    simp (
-      le-leb _ _ (c .before .before .before .before .before .before .before .before .before .if1 .left),
-      le-leb _ _ (c .before .before .before .before .before .before .before .if2 .left),
-      le-leb _ _ (c .before .before .before .before .before .if3 .left),
-      le-leb _ _ (c .before .before .before .before .if4 .left),
-      le-leb _ _ (c .before .before .before .if5 .left),
-      failed _ _ (c .before .cells-good .ensures) (c .if6 .taken),
-    )
+returns-6 c = many-fails (now (c .before .before .before .before .before .before .before .before .before .before .before .args .row)) (c .if6 .taken)
+
+cast-count : tie.Need-cast-count
+cast-count c = search needs
+
+cast-came : tie.Need-cast-came
+cast-came c = search needs
+
+sub-came : tie.Need-sub-came
+sub-came c = search needs
+
+all-within-requires : tie.Need-all-within-requires
+all-within-requires c κs = search needs
+
+mul-result : tie.Need-mul-result
+mul-result c = search needs
+
+returns-7 : tie.Need-returns-7
+returns-7 c =
+    let head : Head (now (c .before .before .before .before .before .before .before .before .before .before .before .before .before .args .row)) =
+    record {
+      long = c .before .before .before .before .before .before .before .before .before .before .before .if1 .left;
+      begun = c .before .before .before .before .before .before .before .before .before .if2 .left;
+      open' = c .before .before .before .before .before .before .before .if3 .left;
+      high = c .before .before .before .before .before .before .if4 .left;
+      view = c .before .before .before .before .if5 .left;
+    }
+    in
+    short-stands _ head (sym (c .before .all-within .ensures) ∙ c .if7 .taken)
+
+all-within-requires-2 : tie.Need-all-within-requires-2
+all-within-requires-2 c κs = search needs
+
+returns-8 : tie.Need-returns-8
+returns-8 c =
+    let head : Head (now (c .before .before .before .before .before .before .before .before .before .before .before .before .before .before .before .args .row)) =
+    record {
+      long = c .before .before .before .before .before .before .before .before .before .before .before .before .before .if1 .left;
+      begun = c .before .before .before .before .before .before .before .before .before .before .before .if2 .left;
+      open' = c .before .before .before .before .before .before .before .before .before .if3 .left;
+      high = c .before .before .before .before .before .before .before .before .if4 .left;
+      view = c .before .before .before .before .before .before .if5 .left;
+    }
+    in
+    unreadable _ head (failed _ _ (c .before .all-within2 .ensures) (c .if8 .taken))
 
 pieces-requires : tie.Need-pieces-requires
 pieces-requires c κs = search needs
 
-cast-result : tie.Need-cast-result
-cast-result c = search needs
-
-sub-result : tie.Need-sub-result
-sub-result c = search needs
-
-returns-7 : tie.Need-returns-7
-returns-7 c =
-    simp (
-      le-leb _ _ (c .before .before .before .before .before .before .before .before .before .before .if1 .left),
-      le-leb _ _ (c .before .before .before .before .before .before .before .before .if2 .left),
-      le-leb _ _ (c .before .before .before .before .before .before .if3 .left),
-      le-leb _ _ (c .before .before .before .before .before .if4 .left),
-      le-leb _ _ (c .before .before .before .before .if5 .left),
-      passed _ _ (c .before .before .cells-good .ensures) (c .before .if6 .left),
-      ← (c .pieces .ensures),
-    )
+returns-9 : tie.Need-returns-9
+returns-9 c =
+    let head : Head (now (c .before .before .before .before .before .before .before .before .before .before .before .before .before .before .before .before .args .row)) =
+    record {
+      long = c .before .before .before .before .before .before .before .before .before .before .before .before .before .before .if1 .left;
+      begun = c .before .before .before .before .before .before .before .before .before .before .before .before .if2 .left;
+      open' = c .before .before .before .before .before .before .before .before .before .before .if3 .left;
+      high = c .before .before .before .before .before .before .before .before .before .if4 .left;
+      view = c .before .before .before .before .before .before .before .if5 .left;
+    }
+    in
+    exact _ _ head (passed _ _ (c .before .before .all-within2 .ensures) (c .before .if8 .left)) (c .pieces .ensures)
 
 pub row-stands-spec : {M : Type 1} → statement M
 row-stands-spec =
     tie.close
     (tie.spec
     returns
+    shared-slice-read-next
     returns-2
+    shared-slice-read-n
     returns-3
     returns-4
+    shared-slice-read-view
     returns-5
-    cells-good-requires
+    shared-slice-read-many
     returns-6
+    cast-count
+    cast-came
+    sub-came
+    all-within-requires
+    mul-result
+    returns-7
+    all-within-requires-2
+    returns-8
     pieces-requires
-    cast-result
-    sub-result
-    returns-7)
+    returns-9)

@@ -1,36 +1,44 @@
+-- `goes_on` meets its contract: test by test. Assumes nothing.
 use borrow.Author.Tests.{ne-eqb, eq-eqb}
 use borrow.Author.Needs.{needs}
 use Rattle.gather.proofs.line.goes_on.Statement.{statement}
 use Rattle.gather.proofs.line.goes_on.Tie as tie
-use Rattle.gather.proofs.line.goes_on.Reads as reads
-use Rattle.gather.proofs.line.goes_on.Lts as lts
-use Rattle.gather.proofs.lent.row_stands.Reads as row-stands-reads
+
+shared-slice-read-if1 : tie.Need-shared-slice-read-if1
+shared-slice-read-if1 c = search needs
 
 returns : tie.Need-returns
 returns c = simp (ne-eqb _ _ (c .if1 .taken))
 
+shared-slice-read-if2 : tie.Need-shared-slice-read-if2
+shared-slice-read-if2 c = search needs
+
 returns-2 : tie.Need-returns-2
-returns-2 c = simp (eq-eqb _ _ (c .before .before .before .if1 .left), ne-eqb _ _ (c .if2 .taken))
+returns-2 c = simp (eq-eqb _ _ (c .before .before .if1 .left), ne-eqb _ _ (c .if2 .taken))
+
+shared-slice-read-if3 : tie.Need-shared-slice-read-if3
+shared-slice-read-if3 c = search needs
 
 returns-3 : tie.Need-returns-3
-returns-3 c =
-    simp (
-      eq-eqb _ _ (c .before .before .before .before .before .before .if1 .left),
-      eq-eqb _ _ (c .before .before .before .if2 .left),
-      ne-eqb _ _ (c .if3 .taken),
-    )
+returns-3 c = simp (eq-eqb _ _ (c .before .before .before .before .if1 .left), eq-eqb _ _ (c .before .before .if2 .left), ne-eqb _ _ (c .if3 .taken))
 
 row-stands-requires : tie.Need-row-stands-requires
 row-stands-requires c κs = search needs
 
 returns-4 : tie.Need-returns-4
 returns-4 c =
-    simp (
-      eq-eqb _ _ (c .before .before .before .before .before .before .before .if1 .left),
-      eq-eqb _ _ (c .before .before .before .before .if2 .left),
-      eq-eqb _ _ (c .before .if3 .left),
-    )
+    simp (eq-eqb _ _ (c .before .before .before .before .before .if1 .left), eq-eqb _ _ (c .before .before .before .if2 .left), eq-eqb _ _ (c .before .if3 .left))
     (c .row-stands .ensures)
 
 pub goes-on-spec : {M : Type 1} → statement M
-goes-on-spec = tie.close (tie.spec returns returns-2 returns-3 row-stands-requires returns-4)
+goes-on-spec =
+    tie.close
+    (tie.spec
+    shared-slice-read-if1
+    returns
+    shared-slice-read-if2
+    returns-2
+    shared-slice-read-if3
+    returns-3
+    row-stands-requires
+    returns-4)

@@ -1,111 +1,156 @@
-use mathlib.Core.Path.{_≡_, ap, sym, _∙_}
+-- `put` meets its contract: what `Runs` has for each of its four ends. Assumes nothing.
 use native.Mathlib.Omega.{arith}
-use lib.ListN.{length, length-map}
+use mathlib.Core.Path.{ap, _∙_}
+use denote.Ref.{now}
+use lib.ListN.{length-set}
 use borrow.Author.Tests.{not-true, not-false}
-use Rattle.groups.specs.Step.{sofar}
+use Rattle.gsv.proofs.Present.{at-most-four}
 use Rattle.rows.specs.Line.{lineOf}
 use Rattle.sentence.specs.Answer.{gsvSentence}
-use Rattle.gather.specs.Put.{meant, putOf}
-use Rattle.gather.proofs.Runs.{stops, runs, fits, hands, waits}
+use Rattle.gather.specs.Words.{meant}
+use Rattle.gather.specs.Put.{beforeOf}
+use Rattle.gather.proofs.Cells.{stored-long}
+use Rattle.gather.proofs.Runs.{by-head, no-row, stops, runs, completes, waits}
 use borrow.Author.Needs.{needs}
 use Rattle.gather.proofs.line.put.Statement.{statement}
 use Rattle.gather.proofs.line.put.Tie as tie
-use Rattle.gather.proofs.line.put.Reads as reads
-use Rattle.gather.proofs.line.put.Lts as lts
-use Rattle.gather.proofs.line.add.Reads as add-reads
-use Rattle.gather.proofs.line.present.Reads as present-reads
-use Rattle.gather.proofs.line.so_far.Reads as so-far-reads
-use Rattle.gather.proofs.row.empty_row.Reads as empty-row-reads
-use Rattle.gather.proofs.row.no_group.Reads as no-group-reads
+
+returns : tie.Need-returns
+returns c = no-row (now (c .before .before .args .row)) (lineOf (gsvSentence (c .before .before .args .line))) (c .if1 .taken)
 
 so-far-requires : tie.Need-so-far-requires
 so-far-requires c κs = search needs
 
-empty-row-requires : tie.Need-empty-row-requires
-empty-row-requires c κs = search needs
+slice-write-row : tie.Need-slice-write-row
+slice-write-row c = search needs
 
-no-group-requires : tie.Need-no-group-requires
-no-group-requires c κs = search needs
-
-returns : tie.Need-returns
-returns c =
-    let a = c .before .before .before .before .before .args in
-    let l = gsvSentence (a .line) in
-    let b = c .before .before .before .before .so-far in
-    rw (c .before .empty-row .ensures, c .no-group .ensures) (ap putOf (sym (stops (sofar (meant (a .row)) (lineOf l)) (lineOf l) (b .result) (b .ensures) (not-true _ (c .before .before .if1 .taken)))))
-
-present-requires : tie.Need-present-requires
-present-requires c κs = search needs
-
-add-requires : tie.Need-add-requires
-add-requires c κs =
-    let at = c .before .before .before .before .before .before .before in
-    let r = at .args .row in
-    let l = gsvSentence (at .args .line) in
-    let room : length (r .sats) ≡ 36 = sym (length-map (r .sats) _) ∙ at .good .0 .1 .1 .1 .1 .1 .1 .0 .1 .0 .1 in
-    let b = c .before .before .before .before .before .before .so-far in
-    let x = runs r l (b .result) room (b .ensures) (not-false _ (c .before .before .before .before .if1 .left)) in
-    fits r l (b .result) x _ (c .before .before .present .ensures)
-
-add-total : tie.Need-add-total
-add-total c =
-    let at = c .before .before .before .before .before .before .before .before in
-    let r = at .args .row in
-    let l = gsvSentence (at .args .line) in
-    let room : length (r .sats) ≡ 36 = sym (length-map (r .sats) _) ∙ at .good .0 .1 .1 .1 .1 .1 .1 .0 .1 .0 .1 in
-    let b = c .before .before .before .before .before .before .before .so-far in
-    let x = runs r l (b .result) room (b .ensures) (not-false _ (c .before .before .before .before .before .if1 .left)) in
-    omega (arith, fits r l (b .result) x _ (c .before .before .before .present .ensures))
-
-empty-row-requires-2 : tie.Need-empty-row-requires-2
-empty-row-requires-2 c κs = search needs
+same-length : tie.Need-same-length
+same-length c = search needs
 
 returns-2 : tie.Need-returns-2
 returns-2 c =
-    let at = c .before .before .before .before .before .before .before .before .before .before .before in
-    let r = at .args .row in
-    let l = gsvSentence (at .args .line) in
-    let room : length (r .sats) ≡ 36 = sym (length-map (r .sats) _) ∙ at .good .0 .1 .1 .1 .1 .1 .1 .0 .1 .0 .1 in
-    let b = c .before .before .before .before .before .before .before .before .before .before .so-far in
-    let x = runs r l (b .result) room (b .ensures) (not-false _ (c .before .before .before .before .before .before .before .before .if1 .left)) in
-    hands r l (b .result) x _ (c .before .before .before .before .before .before .present .ensures) (c .before .before .before .add .ensures) (c .empty-row2 .ensures) (c .before .if2 .taken)
+    let a = c .before .before .before .before .before .before .before .args in
+    let ws = now (a .row) in
+    let g = lineOf (gsvSentence (a .line)) in
+    let long = c .before .before .before .before .before .if1 .left in
+    let b = c .before .before .so-far in
+    let e = b .ensures ∙ ap beforeOf (by-head (meant ws) g) in
+    stops ws g long (b .result) e (not-true _ (c .if2 .taken))
 
-add-t19 : tie.Need-add-t19
-add-t19 c =
-    let at = c .before .before .before .before .before .before .before .before .before .before .before in
-    let r = at .args .row in
-    let l = gsvSentence (at .args .line) in
-    let room : length (r .sats) ≡ 36 = sym (length-map (r .sats) _) ∙ at .good .0 .1 .1 .1 .1 .1 .1 .0 .1 .0 .1 in
-    let b = c .before .before .before .before .before .before .before .before .before .before .so-far in
-    let x = runs r l (b .result) room (b .ensures) (not-false _ (c .before .before .before .before .before .before .before .before .if1 .left)) in
-    omega (arith, x .low)
+put-slots-requires : tie.Need-put-slots-requires
+put-slots-requires c κs =
+    let a = c .before .before .before .before .before .before .before .before .args in
+    let ws = now (a .row) in
+    let g = lineOf (gsvSentence (a .line)) in
+    let long = c .before .before .before .before .before .before .if1 .left in
+    let b = c .before .before .before .so-far in
+    let e = b .ensures ∙ ap beforeOf (by-head (meant ws) g) in
+    let x = runs ws g long (b .result) e (not-false _ (c .before .if2 .left)) in
+    (long, x .few)
 
-no-group-requires-2 : tie.Need-no-group-requires-2
-no-group-requires-2 c κs = search needs
+slice-write-row-2 : tie.Need-slice-write-row-2
+slice-write-row-2 c = search needs
+
+slice-write-row-3 : tie.Need-slice-write-row-3
+slice-write-row-3 c = simp length-set (omega (arith, stored-long (c .before .before .before .put-slots .ensures), c .before .before .before .before .before .before .before .before .before .before .if1 .left))
+
+slice-write-row-4 : tie.Need-slice-write-row-4
+slice-write-row-4 c = simp length-set (omega (arith, stored-long (c .before .before .before .put-slots .ensures), c .before .before .before .before .before .before .before .before .before .before .if1 .left))
+
+cast-row : tie.Need-cast-row
+cast-row c =
+    let a = c .before .before .before .before .before .before .before .before .before .before .before .before .args in
+    let ws = now (a .row) in
+    let g = lineOf (gsvSentence (a .line)) in
+    let long = c .before .before .before .before .before .before .before .before .before .before .if1 .left in
+    let b = c .before .before .before .before .before .before .before .so-far in
+    let e = b .ensures ∙ ap beforeOf (by-head (meant ws) g) in
+    let x = runs ws g long (b .result) e (not-false _ (c .before .before .before .before .before .if2 .left)) in
+    omega (arith, c .before .before .before .put-slots .ensures .count, x .few, at-most-four (gsvSentence (a .line) .body))
+
+slice-write-row-5 : tie.Need-slice-write-row-5
+slice-write-row-5 c = simp length-set (omega (arith, stored-long (c .before .before .before .put-slots .ensures), c .before .before .before .before .before .before .before .before .before .before .if1 .left))
+
+same-length-2 : tie.Need-same-length-2
+same-length-2 c = search needs
 
 returns-3 : tie.Need-returns-3
 returns-3 c =
-    let at = c .before .before .before .before .before .before .before .before .before .before .before .before in
-    let r = at .args .row in
-    let l = gsvSentence (at .args .line) in
-    let room : length (r .sats) ≡ 36 = sym (length-map (r .sats) _) ∙ at .good .0 .1 .1 .1 .1 .1 .1 .0 .1 .0 .1 in
-    let b = c .before .before .before .before .before .before .before .before .before .before .before .so-far in
-    let x = runs r l (b .result) room (b .ensures) (not-false _ (c .before .before .before .before .before .before .before .before .before .if1 .left)) in
-    waits r l (b .result) x _ (c .before .before .before .before .before .before .before .present .ensures) (c .before .before .before .before .add .ensures) (c .no-group2 .ensures) (c .before .before .if2 .left)
+    let a = c .before .before .before .before .before .before .before .before .before .before .before .before .args in
+    let ws = now (a .row) in
+    let g = lineOf (gsvSentence (a .line)) in
+    let long = c .before .before .before .before .before .before .before .before .before .before .if1 .left in
+    let b = c .before .before .before .before .before .before .before .so-far in
+    let e = b .ensures ∙ ap beforeOf (by-head (meant ws) g) in
+    let x = runs ws g long (b .result) e (not-false _ (c .before .before .before .before .before .if2 .left)) in
+    completes ws g long (b .result) x _ _ (c .before .before .before .put-slots .ensures) (c .if3 .taken)
+
+add-row : tie.Need-add-row
+add-row c =
+    let a = c .before .before .before .before .before .before .before .before .before .before .before .before .args in
+    let ws = now (a .row) in
+    let g = lineOf (gsvSentence (a .line)) in
+    let long = c .before .before .before .before .before .before .before .before .before .before .if1 .left in
+    let b = c .before .before .before .before .before .before .before .so-far in
+    let e = b .ensures ∙ ap beforeOf (by-head (meant ws) g) in
+    let x = runs ws g long (b .result) e (not-false _ (c .before .before .before .before .before .if2 .left)) in
+    omega (arith, x .low)
+
+slice-write-row-6 : tie.Need-slice-write-row-6
+slice-write-row-6 c = simp length-set (omega (arith, stored-long (c .before .before .before .put-slots .ensures), c .before .before .before .before .before .before .before .before .before .before .if1 .left))
+
+slice-write-row-7 : tie.Need-slice-write-row-7
+slice-write-row-7 c = simp length-set (omega (arith, stored-long (c .before .before .before .put-slots .ensures), c .before .before .before .before .before .before .before .before .before .before .if1 .left))
+
+cast-row-2 : tie.Need-cast-row-2
+cast-row-2 c =
+    let a = c .before .before .before .before .before .before .before .before .before .before .before .before .args in
+    let ws = now (a .row) in
+    let g = lineOf (gsvSentence (a .line)) in
+    let long = c .before .before .before .before .before .before .before .before .before .before .if1 .left in
+    let b = c .before .before .before .before .before .before .before .so-far in
+    let e = b .ensures ∙ ap beforeOf (by-head (meant ws) g) in
+    let x = runs ws g long (b .result) e (not-false _ (c .before .before .before .before .before .if2 .left)) in
+    omega (arith, c .before .before .before .put-slots .ensures .count, x .few, at-most-four (gsvSentence (a .line) .body))
+
+slice-write-row-8 : tie.Need-slice-write-row-8
+slice-write-row-8 c = simp length-set (omega (arith, stored-long (c .before .before .before .put-slots .ensures), c .before .before .before .before .before .before .before .before .before .before .if1 .left))
+
+same-length-3 : tie.Need-same-length-3
+same-length-3 c = search needs
+
+returns-4 : tie.Need-returns-4
+returns-4 c =
+    let a = c .before .before .before .before .before .before .before .before .before .before .before .before .args in
+    let ws = now (a .row) in
+    let g = lineOf (gsvSentence (a .line)) in
+    let long = c .before .before .before .before .before .before .before .before .before .before .if1 .left in
+    let b = c .before .before .before .before .before .before .before .so-far in
+    let e = b .ensures ∙ ap beforeOf (by-head (meant ws) g) in
+    let x = runs ws g long (b .result) e (not-false _ (c .before .before .before .before .before .if2 .left)) in
+    waits ws g long (b .result) x _ _ (c .before .before .before .put-slots .ensures) (c .if3 .left)
 
 pub put-spec : {M : Type 1} → statement M
 put-spec =
     tie.close
     (tie.spec
-    so-far-requires
-    empty-row-requires
-    no-group-requires
     returns
-    present-requires
-    add-requires
-    add-total
-    empty-row-requires-2
+    so-far-requires
+    slice-write-row
+    same-length
     returns-2
-    add-t19
-    no-group-requires-2
-    returns-3)
+    put-slots-requires
+    slice-write-row-2
+    slice-write-row-3
+    slice-write-row-4
+    cast-row
+    slice-write-row-5
+    same-length-2
+    returns-3
+    add-row
+    slice-write-row-6
+    slice-write-row-7
+    cast-row-2
+    slice-write-row-8
+    same-length-3
+    returns-4)

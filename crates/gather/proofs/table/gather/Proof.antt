@@ -1,61 +1,62 @@
+-- `gather` meets its contract: the part that is lent is the row of the line's key. Assumes nothing.
 use native.Mathlib.Omega.{arith}
-use mathlib.Core.Path.{_≡_, sym, _∙_}
-use lib.ListN.{length, length-map}
+use denote.Ref.{now}
 use Rattle.gsv.specs.Answer.{gnss}
-use Rattle.rows.specs.Key.{rowCount}
+use Rattle.rows.specs.Line.{lineOf}
 use Rattle.sentence.specs.Answer.{gsvSentence}
-use Rattle.gather.proofs.Keys.{key-below, handed-some, handed-none, stored-is}
+use Rattle.gather.proofs.Tables.{key-below, no-table, gathers}
 use borrow.Author.Needs.{needs}
 use Rattle.gather.proofs.table.gather.Statement.{statement}
 use Rattle.gather.proofs.table.gather.Tie as tie
-use Rattle.gather.proofs.table.gather.Reads as reads
-use Rattle.gather.proofs.table.gather.Lts as lts
-use Rattle.gather.proofs.line.put.Reads as put-reads
-use Rattle.gather.proofs.table.row_of.Reads as row-of-reads
+
+returns : tie.Need-returns
+returns c = no-table (now (c .before .before .args .table)) (lineOf (gsvSentence (c .before .before .args .line))) (c .if1 .taken)
 
 row-of-requires : tie.Need-row-of-requires
 row-of-requires c κs = search needs
 
-mul-row : tie.Need-mul-row
-mul-row c = omega (arith, c .row-of .ensures, key-below (gnss (c .before .args .line .system)))
+mul-at : tie.Need-mul-at
+mul-at c = omega (arith, c .row-of .ensures, key-below (gnss (c .before .before .before .args .line .system)))
 
-element-copy-out-row : tie.Need-element-copy-out-row
-element-copy-out-row c = omega (arith, c .row-of .ensures, key-below (gnss (c .before .args .line .system)))
+add-end : tie.Need-add-end
+add-end c = omega (arith, c .row-of .ensures, key-below (gnss (c .before .before .before .args .line .system)))
+
+mul-put : tie.Need-mul-put
+mul-put c = omega (arith, c .row-of .ensures, key-below (gnss (c .before .before .before .args .line .system)))
+
+sub-put : tie.Need-sub-put
+sub-put c = search needs
+
+part-put-start : tie.Need-part-put-start
+part-put-start c = search needs
+
+part-put-end : tie.Need-part-put-end
+part-put-end c = omega (arith, c .row-of .ensures, key-below (gnss (c .before .before .before .args .line .system)))
 
 put-requires : tie.Need-put-requires
 put-requires c κs = search needs
 
-mul-left : tie.Need-mul-left
-mul-left c = omega (arith, c .before .before .before .row-of .ensures, key-below (gnss (c .before .before .before .before .args .line .system)))
-
-element-set-from-left : tie.Need-element-set-from-left
-element-set-from-left c = omega (arith, c .before .before .before .row-of .ensures, key-below (gnss (c .before .before .before .before .args .line .system)))
-
-returns : tie.Need-returns
-returns c =
-    let at = c .before .before .before .before .before .before in
-    let a = at .args in
-    let long : length (a .t1 .rows) ≡ rowCount = sym (length-map (a .t1 .rows) _) ∙ at .good .0 .1 .1 .0 .1 .0 .1 in
-    stored-is (a .t1) (gsvSentence (a .line)) (c .before .before .before .put .result) _ (c .before .before .before .before .before .row-of .result) long (c .before .before .before .before .before .row-of .ensures)
-    (c .before .before .before .put .ensures) (handed-some (a .line .system) (c .if1 .taken))
+same-length : tie.Need-same-length
+same-length c = search needs
 
 returns-2 : tie.Need-returns-2
 returns-2 c =
-    let at = c .before .before .before .before .before .before in
-    let a = at .args in
-    let long : length (a .t1 .rows) ≡ rowCount = sym (length-map (a .t1 .rows) _) ∙ at .good .0 .1 .1 .0 .1 .0 .1 in
-    stored-is (a .t1) (gsvSentence (a .line)) (c .before .before .before .put .result) _ (c .before .before .before .before .before .row-of .result) long (c .before .before .before .before .before .row-of .ensures)
-    (c .before .before .before .put .ensures) (handed-none (a .line .system) (c .if1 .left))
+    let a = c .before .before .before .before .before .before .before .args in
+    gathers (now (a .table)) (lineOf (gsvSentence (a .line))) (c .before .before .before .before .row-of .result) _ _ (c .before .before .before .before .row-of .ensures) (key-below (gnss (a .line .system)))
+    (c .before .before .before .before .before .if1 .left) (c .before .before .put .ensures)
 
 pub gather-spec : {M : Type 1} → statement M
 gather-spec =
     tie.close
     (tie.spec
-    row-of-requires
-    mul-row
-    element-copy-out-row
-    put-requires
-    mul-left
-    element-set-from-left
     returns
+    row-of-requires
+    mul-at
+    add-end
+    mul-put
+    sub-put
+    part-put-start
+    part-put-end
+    put-requires
+    same-length
     returns-2)

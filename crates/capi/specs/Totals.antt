@@ -3,7 +3,7 @@ use Prim.Native.Nat.{ℕ, _≤_, _<_}
 use mathlib.Core.Path.{_≡_}
 use mathlib.Core.List.{List, [], _∷_, _++_}
 use lib.ListN.{length, drop}
-use Rattle.gather.specs.Table.{freshGatherer}
+use Rattle.gather.specs.Table.{freshTable}
 use Rattle.log.specs.Walk.{Walk, barred, went, walkOf}
 use Rattle.log.specs.declared.walk.Counts.{Counts}
 
@@ -17,5 +17,5 @@ Tells (went c) before after r = (r ≡ 0) × (after ≡ totalsOf c ++ drop 5 bef
 
 -- place 0, a fresh gatherer, and all lines, of which there are at most as many as bytes
 pub record WalkedAll (log before after : List ℕ) (r : ℕ) : Type 0 where
-  pub written : 5 ≤ length before → Tells (walkOf log 0 (length log) freshGatherer .answer) before after r
+  pub written : 5 ≤ length before → Tells (walkOf log 0 (length log) freshTable .answer) before after r
   pub short : length before < 5 → (r ≡ 255) × (after ≡ before)

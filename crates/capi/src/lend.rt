@@ -1,15 +1,14 @@
 // A table of satellite rows that the caller lends, for C and Rust: made fresh, given a line, and a row of it read.
 ghost use mathlib.Core.Path.{_≡_};
-ghost use mathlib.Core.Bool.{true};
-ghost use mathlib.Core.List.{_++_};
-ghost use Prim.Native.Nat.{_≤_, _<_};
-ghost use lib.Dec.{ltb};
-ghost use lib.ListN.{length, drop};
+ghost use mathlib.Core.List.{[]};
+ghost use mathlib.Core.Option.{some};
+ghost use Prim.Native.Nat.{_+_, _-_, _*_, _≤_, _<_};
+ghost use lib.ListN.{length};
 ghost use lib.Seq.{sets};
-ghost use Rattle.gather.specs.Words.{numberOf};
-ghost use Rattle.capi.specs.Layout.{optionWords};
-ghost use Rattle.capi.specs.Answer.{ofOption};
-ghost use Rattle.capi.specs.Lend.{Freshened, code, GatheredLine, cellWords, headWords, RowRead};
+ghost use Rattle.sentence.specs.Answer.{recordOf};
+ghost use Rattle.gather.specs.Words.{numberOf, satAt, satsFrom};
+ghost use Rattle.capi.specs.Layout.{zeros, optionWords, entryWords};
+ghost use Rattle.capi.specs.Lend.{Freshened, code, gsvIn, Taken, GatheredLine, rowHead, entriesWords, RowRead, ReadAs};
 use gather::lent;
 use gather::line::Outcome;
 use sentence::Record;
@@ -34,7 +33,7 @@ pub extern "C" fn nmea_fresh(table: &mut [u32]) -> u32
 }
 
 // What a line did to its row, as a number.
-fn outcome_number(o: Outcome, row: usize) -> u32
+fn row_code(o: Outcome, row: usize) -> u32
     requires { ⌜ row < 6 ⌝ }
     ensures { λ r. ⌜ r ≡ code o row ⌝ }
 {
@@ -43,6 +42,24 @@ fn outcome_number(o: Outcome, row: usize) -> u32
         Outcome::Nothing => 2,
         Outcome::Waiting => 3,
         Outcome::Complete => 4 + row as u32,
+    }
+}
+
+// What a line's record does to the table.
+fn gather_record(answer: Record, table: &mut [u32]) -> u32
+    ensures { λ r. ⌜ Taken (gsvIn (recordOf [] answer)) (now (table .entry)) (now (table .exit)) r ⌝ }
+{
+    match answer {
+        Record::Rmc(_) => 1,
+        Record::Gsa(_) => 1,
+        Record::Gsv(g) => {
+            let system = g.system;
+            let row = gather::table::row_of(system);
+            let o = gather::table::gather(&mut *table, g);
+            row_code(o, row)
+        }
+        Record::Other(_) => 1,
+        Record::Refused(_) => 1,
     }
 }
 
@@ -62,23 +79,12 @@ pub extern "C" fn nmea_gather(line: &[u8], out: &mut [u64], table: &mut [u32]) -
     let w = crate::words_of(p);
     crate::put(&mut *out, w);
     let answer = p.answer;
-    match answer {
-        Record::Rmc(_) => 1,
-        Record::Gsa(_) => 1,
-        Record::Gsv(g) => {
-            let system = g.system;
-            let row = gather::table::row_of(system);
-            let o = gather::table::gather(&mut *table, g);
-            outcome_number(o, row)
-        }
-        Record::Other(_) => 1,
-        Record::Refused(_) => 1,
-    }
+    gather_record(answer, &mut *table)
 }
 
-// A word of a row that may be absent.
+// A word of a row that may be absent, as two.
 fn put_option(out: &mut [u64], at: usize, x: u32)
-    requires { ⌜ at + 2 ≤ length (now out) ⌝ }
+    requires { ⌜ (at + 2 ≤ length (now out)) × (at ≤ 400) ⌝ }
     ensures { λ _. ⌜ now (out .exit) ≡ sets (now (out .entry)) at (optionWords (numberOf x)) ⌝ }
 {
     if x == lent::ABSENT {
@@ -90,29 +96,74 @@ fn put_option(out: &mut [u64], at: usize, x: u32)
     out[at + 1] = x as u64;
 }
 
-// The entry in cell i, or none behind the count.
-fn put_cell(out: &mut [u64], row: &[u32], i: usize, count: usize)
+// The entry in cell i.
+fn put_entry(out: &mut [u64], row: &[u32], i: usize)
     requires { ⌜ (length (now row) ≡ 148) × (i < 36) × (293 ≤ length (now out)) ⌝ }
-    ensures { λ _. ⌜ now (out .exit) ≡ sets (now (out .entry)) (5 + i * 8) (cellWords (now (row .entry)) (ltb i count) i) ⌝ }
+    ensures { λ _. ⌜ now (out .exit) ≡ sets (now (out .entry)) (5 + i * 8) (entryWords (some (satAt (now (row .entry)) i))) ⌝ }
 {
+    let at = 4 + i * 4;
+    let id = row[at];
+    let elevation = row[at + 1];
+    let azimuth = row[at + 2];
+    let signal = row[at + 3];
     let to = 5 + i * 8;
-    if i < count {
-        let at = 4 + i * 4;
-        out[to] = 1;
-        out[to + 1] = row[at] as u64;
-        let e = row[at + 1];
-        put_option(&mut *out, to + 2, e);
-        let a = row[at + 2];
-        put_option(&mut *out, to + 4, a);
-        let s = row[at + 3];
-        put_option(&mut *out, to + 6, s);
-        return;
+    out[to] = 1;
+    out[to + 1] = id as u64;
+    put_option(&mut *out, to + 2, elevation);
+    put_option(&mut *out, to + 4, azimuth);
+    put_option(&mut *out, to + 6, signal);
+}
+
+// A row's system, n, the number waited for, in view and count.
+fn put_head(out: &mut [u64], row: &[u32], number: usize)
+    requires { ⌜ (length (now row) ≡ 148) × (number < 6) × (293 ≤ length (now out)) ⌝ }
+    ensures { λ _. ⌜ now (out .exit) ≡ sets (now (out .entry)) 0 (rowHead number (now (row .entry))) ⌝ }
+{
+    out[0] = number as u64 + 1;
+    out[1] = row[0] as u64;
+    out[2] = row[1] as u64;
+    out[3] = row[2] as u64;
+    out[4] = row[3] as u64;
+}
+
+// The entries in the first count of its cells.
+fn put_entries(out: &mut [u64], row: &[u32], count: usize)
+    requires { ⌜ (length (now row) ≡ 148) × (count ≤ 36) × (293 ≤ length (now out)) ⌝ }
+    ensures { λ _. ⌜ now (out .exit) ≡ sets (now (out .entry)) 5 (entriesWords (satsFrom 0 count (now (row .entry)))) ⌝ }
+{
+    let mut i = 0;
+    while i < count {
+        put_entry(&mut *out, row, i);
+        i += 1;
     }
-    out[to] = 0;
-    out[to + 1] = 0;
-    put_option(&mut *out, to + 2, lent::ABSENT);
-    put_option(&mut *out, to + 4, lent::ABSENT);
-    put_option(&mut *out, to + 6, lent::ABSENT);
+}
+
+// Zeros from a word on, to the last of a row.
+fn put_zeros(out: &mut [u64], from: usize)
+    requires { ⌜ (from ≤ 293) × (293 ≤ length (now out)) ⌝ }
+    ensures { λ _. ⌜ now (out .exit) ≡ sets (now (out .entry)) from (zeros (293 - from)) ⌝ }
+{
+    let mut j = from;
+    while j < ROW_WORDS {
+        out[j] = 0;
+        j += 1;
+    }
+}
+
+// The words of a row, where there is room for them.
+fn read_row(row: &[u32], number: usize, out: &mut [u64]) -> u32
+    requires { ⌜ (length (now row) ≡ 148) × (number < 6) × (293 ≤ length (now out)) ⌝ }
+    ensures { λ r. ⌜ ReadAs (now (row .entry)) number (now (out .entry)) (now (out .exit)) r ⌝ }
+{
+    let many = row[3];
+    if 36 < many {
+        return 0;
+    }
+    let count = many as usize;
+    put_head(&mut *out, row, number);
+    put_entries(&mut *out, row, count);
+    put_zeros(&mut *out, 5 + count * 8);
+    1
 }
 
 // Reads a row of a table: its system, n, the number waited for, in view, count and 36 entries in the first 293 words, and 1. Too few
@@ -133,27 +184,4 @@ pub extern "C" fn nmea_row(table: &[u32], row: usize, out: &mut [u64]) -> u32
     let at = row * 148;
     let end = at + 148;
     read_row(&table[at..end], row, out)
-}
-
-// The same of a row's words.
-fn read_row(words: &[u32], row: usize, out: &mut [u64]) -> u32
-    requires { ⌜ (length (now words) ≡ 148) × (row < 6) × (293 ≤ length (now out)) ⌝ }
-    ensures { λ r. ⌜ ReadAs (now (words .entry)) row (now (out .entry)) (now (out .exit)) r ⌝ }
-{
-    let many = words[3];
-    if 36 < many {
-        return 0;
-    }
-    let count = many as usize;
-    out[0] = row as u64 + 1;
-    out[1] = words[0] as u64;
-    out[2] = words[1] as u64;
-    out[3] = words[2] as u64;
-    out[4] = many as u64;
-    let mut i = 0;
-    while i < 36 {
-        put_cell(&mut *out, words, i, count);
-        i += 1;
-    }
-    1
 }

@@ -4,7 +4,7 @@ ghost use mathlib.Core.List.{_++_};
 ghost use Prim.Native.Nat.{_≤_};
 ghost use lib.ListN.{length, drop};
 ghost use Rattle.capi.specs.Totals.{totalsOf, WalkedAll};
-use log::totals::totals;
+use log::walk::totals;
 use log::walk::Counts;
 use log::walk::Walked;
 

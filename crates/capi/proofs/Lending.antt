@@ -1,0 +1,282 @@
+-- What the calls over a lent table answer, from what their parts do. Assumes nothing.
+use Prim.Native.Nat.{ℕ, suc, _+_, _-_, _*_, _≤_, _<_}
+use native.Mathlib.Omega.{arith}
+use mathlib.Core.Path.{_≡_, refl, ap, sym, _∙_, subst}
+use mathlib.Core.List.{List, [], _∷_, _++_, append-assoc, append-nil}
+use mathlib.Core.Bool.{Bool, true, false, _&&_, cond}
+use mathlib.Core.Option.{Option, none, some}
+use borrow.Author.Tests.{eq-eqb, ne-eqb, le-leb, lt-leb, lt-ltb, le-ltb}
+use lib.Dec.{eqb, leb, ltb}
+use lib.ListN.{length, take, drop, getD, set, replicate, length-set, length-append, length-replicate, length-drop, drop-of-length-le}
+use lib.Seq.{sets, sets-eq, length-sets, paste}
+use Rattle.gather.specs.Words.{numberOf, satAt, satsFrom, openOf}
+use Rattle.gather.proofs.Cells.{sets-append, sats-append}
+use Rattle.gather.proofs.Quick.{sats-long}
+use Rattle.gsv.specs.Answer.{gnss}
+use Rattle.gsv.specs.Gsv.{Satellite}
+use Rattle.gsv.specs.Talker.{System, beidou, galileo, gps, glonass, navic, qzss}
+use Rattle.sentence.specs.Sentence.{Answer, GsvSentence, answer}
+use Rattle.sentence.specs.Answer.{recordOf, gsvSentence, Says}
+use Rattle.sentence.specs.declared.GsvRecord.{GsvRecord}
+use Rattle.sentence.specs.declared.ParseResult.{ParseResult}
+use Rattle.sentence.specs.declared.Record.{Record}
+use Rattle.sentence.specs.declared.Record.the-variants.{Rmc, Gsa, Gsv, Other, Refused}
+use Rattle.rows.specs.Key.{keyOf, rowCount}
+use Rattle.rows.specs.Line.{lineOf}
+use Rattle.gather.specs.Table.{tableWords, freshTable, rowOf, Gathers}
+use Rattle.gather.specs.declared.line.Outcome.{Outcome}
+use Rattle.gather.specs.declared.line.Outcome.the-variants.{Complete}
+use Rattle.fed.specs.Line.{gathers}
+use Rattle.capi.specs.Layout.{zeros, optionWords, entryWords, systemNumber, words}
+use Rattle.capi.specs.Lend.{Freshened, code, lineCode, gsvIn, Taken, takes, GatheredLine, rowRoom, rowHead, entriesWords, rowRead, reads, RowRead, ReadAs}
+
+pub last-code : (o : Outcome) (k : ℕ) → o ≡ Complete → 4 + k ≡ code o k
+last-code o k e = sym (ap (λ (o : Outcome). code o k) e)
+
+-- the number of a row's system is that of GSV's word 3
+pub row-system : (s : System) → keyOf s + 1 ≡ systemNumber s
+row-system beidou = refl
+row-system galileo = refl
+row-system gps = refl
+row-system glonass = refl
+row-system navic = refl
+row-system qzss = refl
+
+-- a record that is no GSV record, and one that is
+module _ (x : Record) (t : List ℕ) where
+  pub not-gsv : none ≡ gsvIn (recordOf [] x) → Taken (gsvIn (recordOf [] x)) t t 1
+  not-gsv e = record { table = λ j. gathers t (e j) .gatherer; says = λ j. lineCode (e j) (gathers t (e j)) }
+
+  pub is-gsv : (g : GsvRecord) (t′ : List ℕ) (o : Outcome) (k n : ℕ) → x ≡ Gsv g → k ≡ keyOf (gnss (g .system))
+      → Gathers t t′ (lineOf (gsvSentence g)) o → n ≡ code o k → Taken (gsvIn (recordOf [] x)) t t′ n
+  is-gsv g t′ o k n f ek p en =
+      let z : some (gsvSentence g) ≡ gsvIn (recordOf [] x) = sym (ap (λ (y : Record). gsvIn (recordOf [] y)) f) in
+      record {
+        table = p .words ∙ (λ j. gathers t (z j) .gatherer);
+        says = en ∙ (λ j. code (p .says j) (ek j)) ∙ (λ j. lineCode (z j) (gathers t (z j)));
+      }
+
+-- the GSV sentence of an answer does not turn on the satellites beside it
+gsv-beside : (xs : List ℕ) (x : Record) → gsvIn (recordOf [] x) ≡ gsvIn (recordOf xs x)
+gsv-beside xs (Rmc r) = refl
+gsv-beside xs (Gsa g) = refl
+gsv-beside xs (Gsv g) = refl
+gsv-beside xs (Other k) = refl
+gsv-beside xs (Refused r) = refl
+
+module _ (line out t : List ℕ) where
+  nothing-taken : takes out t ≡ false → GatheredLine line out out t t 0
+  nothing-taken e =
+      record {
+        words = sym (ap (λ (b : Bool). cond b (words (answer line) ++ drop 40 out) out) e);
+        table = sym (ap (λ (b : Bool). cond b (gathers t (gsvIn (answer line)) .gatherer) t) e);
+        says = sym (ap (λ (b : Bool). cond b (lineCode (gsvIn (answer line)) (gathers t (gsvIn (answer line)))) 0) e);
+      }
+
+  pub few-words : length out < 40 → GatheredLine line out out t t 0
+  few-words h = nothing-taken (λ j. lt-leb 40 (length out) h j && eqb (length t) tableWords)
+
+  pub no-table : 40 ≤ length out → (length t ≡ tableWords → ⊥) → GatheredLine line out out t t 0
+  no-table h n = nothing-taken (λ j. le-leb 40 (length out) h j && ne-eqb (length t) tableWords n j)
+
+  pub line-taken : (p : ParseResult) (out′ t′ : List ℕ) (r : ℕ) → 40 ≤ length out → length t ≡ tableWords → Says (answer line) p
+      → out′ ≡ words (answer line) ++ drop 40 out → Taken (gsvIn (recordOf [] (p .answer))) t t′ r → GatheredLine line out out′ t t′ r
+  line-taken p out′ t′ r h long s w k =
+      let e : takes out t ≡ true = λ j. le-leb 40 (length out) h j && eq-eqb (length t) tableWords long j in
+      let z : gsvIn (recordOf [] (p .answer)) ≡ gsvIn (answer line) = gsv-beside (take (p .count) (p .satellites)) (p .answer) ∙ ap gsvIn (s .says) in
+      record {
+        words = w ∙ sym (ap (λ (b : Bool). cond b (words (answer line) ++ drop 40 out) out) e);
+        table = k .table ∙ (λ j. gathers t (z j) .gatherer) ∙ sym (ap (λ (b : Bool). cond b (gathers t (gsvIn (answer line)) .gatherer) t) e);
+        says =
+            k .says
+            ∙ (λ j. lineCode (z j) (gathers t (z j)))
+            ∙ sym (ap (λ (b : Bool). cond b (lineCode (gsvIn (answer line)) (gathers t (gsvIn (answer line)))) 0) e);
+      }
+
+-- a row that is not read, and one that is
+module _ (t : List ℕ) (κ : ℕ) (out : List ℕ) where
+  unread : reads t κ out ≡ false → RowRead t κ out out 0
+  unread e =
+      record {
+        words = sym (ap (λ (b : Bool). cond b (rowRead κ (rowOf t κ) ++ drop rowRoom out) out) e);
+        says = sym (ap (λ (b : Bool). cond b 1 0) e);
+      }
+
+  pub few-row-words : length out < rowRoom → RowRead t κ out out 0
+  few-row-words h =
+      unread (λ j. lt-leb rowRoom (length out) h j && (eqb (length t) tableWords && (ltb κ rowCount && leb (getD (rowOf t κ) 3 0) 36)))
+
+  pub no-row-table : rowRoom ≤ length out → (length t ≡ tableWords → ⊥) → RowRead t κ out out 0
+  no-row-table h n =
+      unread (λ j. le-leb rowRoom (length out) h j && (ne-eqb (length t) tableWords n j && (ltb κ rowCount && leb (getD (rowOf t κ) 3 0) 36)))
+
+  pub no-such-row : rowRoom ≤ length out → length t ≡ tableWords → rowCount ≤ κ → RowRead t κ out out 0
+  no-such-row h long n =
+      unread (λ j. le-leb rowRoom (length out) h j && (eq-eqb (length t) tableWords long j && (le-ltb κ rowCount n j && leb (getD (rowOf t κ) 3 0) 36)))
+
+  pub row-taken : (ws out′ : List ℕ) (r : ℕ) → rowRoom ≤ length out → length t ≡ tableWords → κ < rowCount → ws ≡ rowOf t κ
+      → ReadAs ws κ out out′ r → RowRead t κ out out′ r
+  row-taken ws out′ r h long n e k =
+      let b : leb (getD ws 3 0) 36 ≡ reads t κ out =
+      ap (λ (l : List ℕ). leb (getD l 3 0) 36) e
+      ∙ sym (λ j. le-leb rowRoom (length out) h j && (eq-eqb (length t) tableWords long j && (lt-ltb κ rowCount n j && leb (getD (rowOf t κ) 3 0) 36)))
+      in
+      record {
+        words = k .words ∙ (λ j. cond (b j) (rowRead κ (e j) ++ drop rowRoom out) out);
+        says = k .says ∙ (λ j. cond (b j) 1 0);
+      }
+
+-- words stored one after the other
+pub two-stored : (l : List ℕ) (at a b : ℕ) → set (set l at a) (at + 1) b ≡ sets l at (a ∷ b ∷ [])
+two-stored l at a b = let z : at + 1 ≡ suc at = omega arith in λ j. set (set l at a) (z j) b
+
+pub put-absent : (l : List ℕ) (at x : ℕ) → x ≡ 4294967295 → set (set l at 0) (at + 1) 0 ≡ sets l at (optionWords (numberOf x))
+put-absent l at x e =
+    two-stored l at 0 0 ∙ ap (λ (b : Bool). sets l at (optionWords (cond b none (some x)))) (sym (eq-eqb x 4294967295 e))
+
+pub put-known : (l : List ℕ) (at x : ℕ) → (x ≡ 4294967295 → ⊥) → set (set l at 1) (at + 1) x ≡ sets l at (optionWords (numberOf x))
+put-known l at x e =
+    two-stored l at 1 x ∙ ap (λ (b : Bool). sets l at (optionWords (cond b none (some x)))) (sym (ne-eqb x 4294967295 e))
+
+option-two : (o : Option ℕ) → length (optionWords o) ≡ 2
+option-two none = refl
+option-two (some n) = refl
+
+-- stores change no length
+pub two-long : (l : List ℕ) (i a j b : ℕ) → length (set (set l i a) j b) ≡ length l
+two-long l i a j b = length-set (set l i a) j b ∙ length-set l i a
+
+pub entry-room : (l : List ℕ) (i id k : ℕ) → i < 36 → 293 ≤ length l → k ≤ 6 → 5 + i * 8 + k + 2 ≤ length (set (set l (5 + i * 8) 1) (5 + i * 8 + 1) id)
+entry-room l i id k h r f = omega (arith, two-long l (5 + i * 8) 1 (5 + i * 8 + 1) id)
+
+-- an entry's eight words: two, and three times two
+pub entry-stored : (l a b c d : List ℕ) (to id : ℕ) (e f g : Option ℕ) → a ≡ set (set l to 1) (to + 1) id → b ≡ sets a (to + 2) (optionWords e)
+    → c ≡ sets b (to + 4) (optionWords f) → d ≡ sets c (to + 6) (optionWords g)
+    → d ≡ sets l to (entryWords (some (record { id = id; elevation = e; azimuth = f; signal = g })))
+entry-stored l a b c d to id e f g ea eb ec ed =
+    ed
+    ∙ (λ j. sets (ec j) (to + 6) (optionWords g))
+    ∙ (λ j. sets (sets (eb j) (to + 4) (optionWords f)) (to + 6) (optionWords g))
+    ∙ (λ j. sets (sets (sets ((ea ∙ two-stored l to 1 id) j) (to + 2) (optionWords e)) (to + 4) (optionWords f)) (to + 6) (optionWords g))
+    ∙ (λ j. sets (sets (here (1 ∷ id ∷ []) (optionWords e) to 2 refl j) (to + 4) (optionWords f)) (to + 6) (optionWords g))
+    ∙ (λ j. sets (here (1 ∷ id ∷ optionWords e) (optionWords f) to 4 (let z = option-two e in omega arith) j) (to + 6) (optionWords g))
+    ∙ here (1 ∷ id ∷ (optionWords e ++ optionWords f)) (optionWords g) to 6
+    (let z = option-two e in let y = option-two f in omega (arith, length-append (optionWords e) (optionWords f)))
+    ∙ ap (λ (ws : List ℕ). sets l to (1 ∷ id ∷ ws)) (append-assoc (optionWords e) (optionWords f) (optionWords g))
+  where
+    here : (us vs : List ℕ) (i n : ℕ) → length us ≡ n → sets (sets l i us) (i + n) vs ≡ sets l i (us ++ vs)
+    here us vs i n h = ap (λ (k : ℕ). sets (sets l i us) (i + k) vs) (sym h) ∙ sym (sets-append us vs l i)
+
+-- the table while it is made fresh: the first i words are 0, and the others stand
+abbrev pub cleared : List ℕ → ℕ → List ℕ
+cleared t i = replicate i 0 ++ drop i t
+
+pub cleared-long : (t : List ℕ) (i : ℕ) → i ≤ length t → length (cleared t i) ≡ length t
+cleared-long t i h = omega (arith, length-append (replicate i 0) (drop i t), length-replicate {A = ℕ} i 0, length-drop i t)
+
+pub cleared-next : (t : List ℕ) (i : ℕ) → i < length t → set (cleared t i) i 0 ≡ cleared t (i + 1)
+cleared-next [] i h = absurd (omega arith)
+cleared-next (x ∷ t) ℕ.zero h = refl
+cleared-next (x ∷ t) (suc i) h =
+    let z : suc (i + 1) ≡ suc i + 1 = omega arith in
+    ap (λ (l : List ℕ). 0 ∷ l) (cleared-next t i (omega arith)) ∙ ap (cleared (x ∷ t)) z
+
+pub all-cleared : (t : List ℕ) (i : ℕ) → length t ≡ tableWords → i ≡ tableWords → Freshened t (cleared t i) 1
+all-cleared t i long e =
+    let b : eqb (length t) tableWords ≡ true = eq-eqb (length t) tableWords long in
+    record {
+      table =
+          ap (cleared t) e
+          ∙ ap (λ (l : List ℕ). freshTable ++ l) (drop-of-length-le t {i = tableWords} (omega arith))
+          ∙ append-nil freshTable
+          ∙ sym (ap (λ (b : Bool). cond b freshTable t) b);
+      says = sym (ap (λ (b : Bool). cond b 1 0) b);
+    }
+
+pub not-cleared : (t : List ℕ) → (length t ≡ tableWords → ⊥) → Freshened t t 0
+not-cleared t n =
+    let b : eqb (length t) tableWords ≡ false = ne-eqb (length t) tableWords n in
+    record { table = sym (ap (λ (b : Bool). cond b freshTable t) b); says = sym (ap (λ (b : Bool). cond b 1 0) b) }
+
+-- a row is read: its head, its entries one by one, and zeros
+entry-eight : (s : Satellite) → length (entryWords (some s)) ≡ 8
+entry-eight s =
+    let a = option-two (s .elevation) in
+    let b = option-two (s .azimuth) in
+    let c = option-two (s .signal) in
+    omega
+    (arith, length-append (optionWords (s .elevation)) (optionWords (s .azimuth) ++ optionWords (s .signal)), length-append (optionWords (s .azimuth)) (optionWords (s .signal)))
+
+entries-long : (es : List Satellite) → length (entriesWords es) ≡ length es * 8
+entries-long [] = refl
+entries-long (s ∷ es) = omega (arith, length-append (entryWords (some s)) (entriesWords es), entry-eight s, entries-long es)
+
+entries-append : (a b : List Satellite) → entriesWords (a ++ b) ≡ entriesWords a ++ entriesWords b
+entries-append [] b = refl
+entries-append (s ∷ a) b =
+    ap (λ (l : List ℕ). entryWords (some s) ++ l) (entries-append a b) ∙ sym (append-assoc (entryWords (some s)) (entriesWords a) (entriesWords b))
+
+entries-next : (i : ℕ) (ws : List ℕ) → entriesWords (satsFrom 0 i ws) ++ entryWords (some (satAt ws i)) ≡ entriesWords (satsFrom 0 (i + 1) ws)
+entries-next i ws =
+    let z : 0 + i ≡ i = omega arith in
+    ap (λ (l : List ℕ). entriesWords (satsFrom 0 i ws) ++ l) (sym (append-nil (entryWords (some (satAt ws i)))))
+    ∙ sym (entries-append (satsFrom 0 i ws) (satAt ws i ∷ []))
+    ∙ ap entriesWords (sym (sats-append 0 i 1 ws ∙ ap (λ (k : ℕ). satsFrom 0 i ws ++ (satAt ws k ∷ [])) z))
+
+-- words stored behind others
+join : (l us vs : List ℕ) (i n : ℕ) → i + length us ≡ n → sets (sets l i us) n vs ≡ sets l i (us ++ vs)
+join l us vs i n h = ap (λ (k : ℕ). sets (sets l i us) k vs) (sym h) ∙ sym (sets-append us vs l i)
+
+wide : (i : ℕ) (ws : List ℕ) → length (entriesWords (satsFrom 0 i ws)) ≡ i * 8
+wide i ws = omega (arith, entries-long (satsFrom 0 i ws), sats-long 0 i ws)
+
+pub one-entry : (l m o ws : List ℕ) (i : ℕ) → m ≡ sets l 5 (entriesWords (satsFrom 0 i ws)) → o ≡ sets m (5 + i * 8) (entryWords (some (satAt ws i)))
+    → o ≡ sets l 5 (entriesWords (satsFrom 0 (i + 1) ws))
+one-entry l m o ws i e f =
+    f
+    ∙ (λ j. sets (e j) (5 + i * 8) (entryWords (some (satAt ws i))))
+    ∙ join l (entriesWords (satsFrom 0 i ws)) (entryWords (some (satAt ws i))) 5 (5 + i * 8) (omega (arith, wide i ws))
+    ∙ ap (sets l 5) (entries-next i ws)
+
+pub one-zero : (l m : List ℕ) (from j : ℕ) → from ≤ j → m ≡ sets l from (zeros (j - from)) → set m j 0 ≡ sets l from (zeros (j + 1 - from))
+one-zero l m from j h e =
+    let z : from + length (zeros (j - from)) ≡ j = omega (arith, length-replicate {A = ℕ} (j - from) 0) in
+    let y : j - from + 1 ≡ j + 1 - from = omega arith in
+    (λ i. sets (e i) j (0 ∷ [])) ∙ join l (zeros (j - from)) (0 ∷ []) from j z ∙ ap (sets l from) (one-more (j - from) ∙ ap zeros y)
+  where
+    one-more : (k : ℕ) → zeros k ++ (0 ∷ []) ≡ zeros (k + 1)
+    one-more ℕ.zero = refl
+    one-more (suc k) = let z : suc (k + 1) ≡ suc k + 1 = omega arith in ap (λ (r : List ℕ). 0 ∷ r) (one-more k) ∙ ap zeros z
+
+module _ (κ : ℕ) (ws out : List ℕ) (room : rowRoom ≤ length out) where
+  pub too-many : 36 < getD ws 3 0 → ReadAs ws κ out out 0
+  too-many h =
+      let e : leb (getD ws 3 0) 36 ≡ false = lt-leb (getD ws 3 0) 36 h in
+      record {
+        words = sym (ap (λ (b : Bool). cond b (rowRead κ ws ++ drop rowRoom out) out) e);
+        says = sym (ap (λ (b : Bool). cond b 1 0) e);
+      }
+
+  pub all-read : (a b c : List ℕ) → getD ws 3 0 ≤ 36 → a ≡ sets out 0 (rowHead κ ws) → b ≡ sets a 5 (entriesWords (satsFrom 0 (getD ws 3 0) ws))
+      → c ≡ sets b (5 + getD ws 3 0 * 8) (zeros (rowRoom - (5 + getD ws 3 0 * 8))) → ReadAs ws κ out c 1
+  all-read a b c few ea eb ec =
+      let m = getD ws 3 0 in
+      let es = entriesWords (satsFrom 0 m ws) in
+      let zs = zeros (rowRoom - (5 + m * 8)) in
+      let test : leb m 36 ≡ true = le-leb m 36 few in
+      let n : length es ≡ m * 8 = wide m ws in
+      let long : 0 + length (rowRead κ ws) ≡ rowRoom =
+      omega (arith, length-append (rowHead κ ws) (es ++ zs), length-append es zs, length-replicate {A = ℕ} (rowRoom - (5 + m * 8)) 0)
+      in
+      record {
+        words =
+            ec
+            ∙ (λ j. sets (eb j) (5 + m * 8) zs)
+            ∙ join a es zs 5 (5 + m * 8) (omega arith)
+            ∙ (λ j. sets (ea j) 5 (es ++ zs))
+            ∙ join out (rowHead κ ws) (es ++ zs) 0 5 refl
+            ∙ sets-eq (rowRead κ ws) out 0 (omega arith)
+            ∙ ap (λ (k : ℕ). rowRead κ ws ++ drop k out) long
+            ∙ sym (ap (λ (b : Bool). cond b (rowRead κ ws ++ drop rowRoom out) out) test);
+        says = sym (ap (λ (b : Bool). cond b 1 0) test);
+      }

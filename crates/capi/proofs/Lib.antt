@@ -2,3 +2,4 @@ pub mod Signs
 pub mod Says
 pub mod Walks
 pub mod Lending
+pub mod Groups

@@ -4,9 +4,9 @@ ghost use mathlib.Core.List.{_++_};
 ghost use Prim.Native.Nat.{_≤_};
 ghost use lib.ListN.{length, drop};
 ghost use Rattle.capi.specs.Totals.{totalsOf, WalkedAll};
-use log::walk::totals;
 use log::walk::Counts;
 use log::walk::Walked;
+use log::walk::totals;
 
 // How many totals there are.
 const TOTALS: usize = 5;

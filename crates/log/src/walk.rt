@@ -12,8 +12,8 @@ use crate::line;
 use crate::line::Found;
 use crate::line::Said;
 use frame::Refusal;
-use sentence::Record;
 use gather::line::Outcome;
+use sentence::Record;
 
 // What was counted, and the place where the next line begins.
 pub struct Counts {

@@ -3,9 +3,9 @@ ghost use Rattle.nmea_log.specs.Filled.{Brings, Fits};
 use frame::Refusal;
 use libc::STDIN_FILENO;
 use libc::STDOUT_FILENO;
-use log::totals::totals;
 use log::walk::Counts;
 use log::walk::Walked;
+use log::walk::totals;
 
 // One byte more than a log may have, so that a longer one shows.
 const SPACE: usize = 65537;

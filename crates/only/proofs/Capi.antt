@@ -1,4 +1,4 @@
--- No second answer of `capi`: neither another number nor another buffer after the call. Assumes nothing.
+-- No second answer of `capi`: neither another number nor another buffer or table after the call. Assumes nothing.
 use Prim.Native.Nat.{ℕ, _≤_, _<_}
 use mathlib.Core.Path.{_≡_, refl}
 use mathlib.Core.Logic.{_↔_}
@@ -9,11 +9,12 @@ use lib.Dec.{ltb}
 use lib.ListN.{length}
 use borrow.Author.Tests.{ltb-true, ltb-false}
 use Rattle.sentence.specs.Sentence.{answer, verdictOf}
-use Rattle.gather.specs.Table.{freshGatherer}
+use Rattle.gather.specs.Table.{freshTable}
 use Rattle.log.specs.Walk.{Walk, barred, went, walkOf}
 use Rattle.capi.specs.Layout.{refusalNumber}
 use Rattle.capi.specs.Answer.{Answered}
 use Rattle.capi.specs.Totals.{Tells, WalkedAll}
+use Rattle.capi.specs.Lend.{Freshened, GatheredLine, RowRead}
 use Rattle.only.proofs.Laws.{same}
 
 -- each contract has two cases: the buffer has room for k words, or not
@@ -44,5 +45,17 @@ nmea-answer line before x y =
 pub nmea-walk : (log before : List ℕ) {l m : List ℕ} {r q : ℕ} → WalkedAll log before l r → WalkedAll log before m q → (r ≡ q) × (l ≡ m)
 nmea-walk log before x y =
     by-room 5 (length before)
-    (λ h. tells (walkOf log 0 (length log) freshGatherer .answer) before (x .written h) (y .written h))
+    (λ h. tells (walkOf log 0 (length log) freshTable .answer) before (x .written h) (y .written h))
     (λ h. both (x .short h) (y .short h))
+
+pub nmea-fresh : (table : List ℕ) {l m : List ℕ} {r q : ℕ} → Freshened table l r → Freshened table m q → (r ≡ q) × (l ≡ m)
+nmea-fresh table x y = (same (x .says) (y .says), same (x .table) (y .table))
+
+pub nmea-gather : (line before table : List ℕ) {l m t u : List ℕ} {r q : ℕ}
+    → GatheredLine line before l table t r
+    → GatheredLine line before m table u q
+    → (r ≡ q) × (l ≡ m) × (t ≡ u)
+nmea-gather line before table x y = (same (x .says) (y .says), same (x .words) (y .words), same (x .table) (y .table))
+
+pub nmea-row : (table : List ℕ) (row : ℕ) (before : List ℕ) {l m : List ℕ} {r q : ℕ} → RowRead table row before l r → RowRead table row before m q → (r ≡ q) × (l ≡ m)
+nmea-row table row before x y = (same (x .says) (y .says), same (x .words) (y .words))

@@ -4,9 +4,9 @@ use mathlib.Core.Path.{_≡_, refl, ap}
 use mathlib.Core.List.{List}
 use mathlib.Core.Option.{Option, none, some}
 use Rattle.text.specs.Value.{Value, syntax, fault, is, value}
-use Rattle.gsv.specs.Talker.{System, systemOf}
+use Rattle.gsv.specs.Talker.{System, beidou, galileo, gps, glonass, navic, qzss, systemOf}
 use Rattle.gsv.specs.Gsv.{Satellite, Gsv, gsv}
-use Rattle.gsv.specs.Answer.{talker, slot, gsvData, gsvRead}
+use Rattle.gsv.specs.Answer.{gnss, talker, satellite, slot, gsvData, gsvRead}
 use Rattle.gsv.specs.declared.TalkerOf.{TalkerOf}
 use Rattle.gsv.specs.declared.TalkerOf.the-variants.{Unknown, Is as Names}
 use Rattle.gsv.specs.declared.Slot.{Slot}
@@ -14,29 +14,54 @@ use Rattle.gsv.specs.declared.Slot.the-variants.{Empty, Seen}
 use Rattle.gsv.specs.declared.GsvData.{GsvData}
 use Rattle.gsv.specs.declared.GsvRead.{GsvRead}
 use Rattle.gsv.specs.declared.GsvRead.the-variants.{Syntax, Is as AGsv}
-use Rattle.gather.specs.Cells.{cell}
-use Rattle.gather.specs.Table.{typeOf}
-use Rattle.gather.proofs.Back.{back as sat-back}
-use Rattle.gather.proofs.Keys.{type-back}
+use Rattle.gsv.specs.declared.GnssType.{GnssType}
+use Rattle.gsv.specs.declared.GnssType.the-variants.{Beidou, Galileo, Gps, Glonass, NavIC, Qzss}
+use Rattle.gsv.specs.declared.SatInfo.{SatInfo}
 use Rattle.only.proofs.Laws.{same, undone}
+use Rattle.only.proofs.Text.{held-of, held-is}
+
+pub system-of : System → GnssType
+system-of beidou = Beidou
+system-of galileo = Galileo
+system-of gps = Gps
+system-of glonass = Glonass
+system-of navic = NavIC
+system-of qzss = Qzss
+
+pub system-is : (r : GnssType) → system-of (gnss r) ≡ r
+unfolding system-of
+system-is Beidou = refl
+system-is Galileo = refl
+system-is Gps = refl
+system-is Glonass = refl
+system-is NavIC = refl
+system-is Qzss = refl
+
+info-of : Satellite → SatInfo
+info-of s = record { id = s .id; elevation = held-of (s .elevation); azimuth = held-of (s .azimuth); signal = held-of (s .signal) }
+
+info-is : (r : SatInfo) → info-of (satellite r) ≡ r
+unfolding info-of
+info-is r =
+    λ i. record { id = r .id; elevation = held-is (r .elevation) i; azimuth = held-is (r .azimuth) i; signal = held-is (r .signal) i }
 
 talker-of : Option System → TalkerOf
 talker-of none = Unknown
-talker-of (some s) = Names (typeOf s)
+talker-of (some s) = Names (system-of s)
 
 talker-is : (r : TalkerOf) → talker-of (talker r) ≡ r
 unfolding talker-of
 talker-is Unknown = refl
-talker-is (Names g) = ap Names (type-back g)
+talker-is (Names g) = ap Names (system-is g)
 
 slot-of : Option Satellite → Slot
 slot-of none = Empty
-slot-of (some s) = Seen (cell s)
+slot-of (some s) = Seen (info-of s)
 
 slot-is : (r : Slot) → slot-of (slot r) ≡ r
 unfolding slot-of
 slot-is Empty = refl
-slot-is (Seen t) = ap Seen (sat-back t)
+slot-is (Seen t) = ap Seen (info-is t)
 
 pub gsv-of : Gsv → GsvData
 gsv-of g =

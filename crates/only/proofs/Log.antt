@@ -1,12 +1,11 @@
--- No second answer of `log`. Assumes nothing.
+-- No second answer of `log`, and no other words of a table that is lent. Assumes nothing.
 use Prim.Native.Nat.{ℕ}
 use mathlib.Core.Path.{_≡_, refl, ap}
 use mathlib.Core.Bool.{Bool}
 use mathlib.Core.List.{List}
 use lib.ListN.{length, take}
 use Rattle.lines.specs.Places.{isPlace}
-use Rattle.gather.specs.Table.{freshGatherer}
-use Rattle.gather.specs.declared.table.Gatherer.{Gatherer}
+use Rattle.gather.specs.Table.{freshTable}
 use Rattle.fed.specs.Line.{Said, blank, read}
 use Rattle.log.specs.Step.{Step, refused, end, line, stepOf}
 use Rattle.log.specs.Walk.{Walk, barred, went, walkOf}
@@ -18,7 +17,6 @@ use Rattle.log.specs.declared.step.Stepped.the-variants as stepped
 use Rattle.log.specs.declared.step.StepAnswer.{StepAnswer}
 use Rattle.log.specs.declared.walk.Walked.{Walked}
 use Rattle.log.specs.declared.walk.Walked.the-variants as walked
-use Rattle.log.specs.declared.walk.WalkAnswer.{WalkAnswer}
 use Rattle.only.proofs.Laws.{same, brought, undone}
 use Rattle.only.proofs.Frame.{refusal-of, refusal-is}
 use Rattle.only.proofs.Sentence.{record-of, record-is}
@@ -56,32 +54,28 @@ walk-back-is (walked.Went c) = refl
 pub is-place : (log : List ℕ) (place : ℕ) {r q : Bool} → r ≡ isPlace log place → q ≡ isPlace log place → r ≡ q
 is-place log place = same
 
-pub step : (log : List ℕ) (place : ℕ) (g : Gatherer) {r q : StepAnswer} → SaysStep (stepOf log place g) r → SaysStep (stepOf log place g) q → r ≡ q
-step log place g {r} {q} x y =
+pub step : (log : List ℕ) (place : ℕ) (words : List ℕ) {l m : List ℕ} {r q : StepAnswer}
+    → SaysStep (stepOf log place words) l r
+    → SaysStep (stepOf log place words) m q
+    → (r ≡ q) × (l ≡ m)
+step log place words {l} {m} {r} {q} x y =
     let answer =
     brought step-back (same (x .says) (y .says)) (step-back-is (take (r .count) (r .satellites)) (r .stepped))
     (step-back-is (take (q .count) (q .satellites)) (q .stepped)) in
     let cells = same (x .beside .are) (y .beside .are) in
     let count = same (x .beside .number) (y .beside .number) in
     let gathered = same (x .gathered) (y .gathered) in
-    λ i.
-    record {
-      stepped = answer i;
-      satellites = cells i;
-      count = count i;
-      handed = gathered i .handed;
-      group = gathered i .group;
-      gatherer = gathered i .gatherer;
-    }
+    (λ i. record { stepped = answer i; satellites = cells i; count = count i; handed = gathered i .handed }, λ i. gathered i .gatherer)
 
 pub totals : (log : List ℕ) {r q : Walked}
-    → walkIn r ≡ walkOf log 0 (length log) freshGatherer .answer
-    → walkIn q ≡ walkOf log 0 (length log) freshGatherer .answer
+    → walkIn r ≡ walkOf log 0 (length log) freshTable .answer
+    → walkIn q ≡ walkOf log 0 (length log) freshTable .answer
     → r ≡ q
 totals log x y = undone walkIn walk-back walk-back-is (same x y)
 
-pub walk : (log : List ℕ) (place allowance : ℕ) (g : Gatherer) {r q : WalkAnswer} → SaysWalk (walkOf log place allowance g) r → SaysWalk (walkOf log place allowance g) q → r ≡ q
-walk log place allowance g x y =
-    let answer = undone walkIn walk-back walk-back-is (same (x .says) (y .says)) in
-    let gatherer = same (x .gatherer) (y .gatherer) in
-    λ i. record { walked = answer i; gatherer = gatherer i }
+pub walk : (log : List ℕ) (place allowance : ℕ) (words : List ℕ) {l m : List ℕ} {r q : Walked}
+    → SaysWalk (walkOf log place allowance words) l r
+    → SaysWalk (walkOf log place allowance words) m q
+    → (r ≡ q) × (l ≡ m)
+walk log place allowance words x y =
+    (undone walkIn walk-back walk-back-is (same (x .says) (y .says)), same (x .gatherer) (y .gatherer))

@@ -22,20 +22,18 @@ use Rattle.sentence.specs.declared.Record.the-variants.{Rmc as ARmc, Gsa as AGs
 use Rattle.sentence.specs.declared.ParseResult.{ParseResult}
 use Rattle.sentence.specs.declared.Verdict.{Verdict}
 use Rattle.sentence.specs.declared.Verdict.the-variants.{Accepted, Refused as AVerdict}
-use Rattle.gather.specs.Table.{typeOf}
-use Rattle.gather.proofs.Keys.{type-back}
 use Rattle.only.proofs.Laws.{same, brought, undone}
 use Rattle.only.proofs.Frame.{talker-of, kind-of, refusal-of, refusal-is}
-use Rattle.only.proofs.Gsv.{gsv-of, gsv-is}
+use Rattle.only.proofs.Gsv.{system-of, system-is, gsv-of, gsv-is}
 use Rattle.only.proofs.Gsa.{head-of, head-is}
 use Rattle.only.proofs.Rmc.{rmc-of, rmc-is}
 
 gsv-record : GsvSentence → GsvRecord
-gsv-record g = record { talker = talker-of (g .talker); system = typeOf (g .system); «data» = gsv-of (g .body) }
+gsv-record g = record { talker = talker-of (g .talker); system = system-of (g .system); «data» = gsv-of (g .body) }
 
 gsv-record-is : (g : GsvRecord) → gsv-record (gsvSentence g) ≡ g
 unfolding gsv-record
-gsv-record-is g = λ i. record { talker = g .talker; system = type-back (g .system) i; «data» = gsv-is (g .data) i }
+gsv-record-is g = λ i. record { talker = g .talker; system = system-is (g .system) i; «data» = gsv-is (g .data) i }
 
 gsa-record : GsaSentence → GsaRecord
 gsa-record g = record { talker = talker-of (g .talker); head = head-of (g .body) }

@@ -2,23 +2,22 @@
 use Prim.Native.Nat.{ℕ}
 use mathlib.Core.Path.{_≡_, refl}
 use mathlib.Core.List.{List}
-use mathlib.Core.Option.{Option}
+use mathlib.Core.Option.{Option, none, some}
 use Rattle.text.specs.Reader.{char, oneOf, letterOf, opt}
 use Rattle.text.specs.Reader as Reader
 use Rattle.text.specs.Placed.{Placed, unread, refused, upto, Reads}
 use Rattle.text.specs.Number as Number
 use Rattle.text.specs.Units as Units
-use Rattle.text.specs.Answer.{wholeAt, next, lettered, part, field}
+use Rattle.text.specs.Answer.{held, wholeAt, next, lettered, part, field}
 use Rattle.text.specs.declared.Whole.{Whole}
 use Rattle.text.specs.declared.Whole.the-variants.{No, Is}
 use Rattle.text.specs.declared.Next.{Next}
 use Rattle.text.specs.declared.Next.the-variants.{No as Stop, At}
-use Rattle.text.specs.declared.Held.the-variants.{Absent}
+use Rattle.text.specs.declared.Held.{Held}
+use Rattle.text.specs.declared.Held.the-variants.{Absent, Known}
 use Rattle.text.specs.declared.Field.{Field}
 use Rattle.text.specs.declared.Letter.{Letter}
 use Rattle.text.specs.declared.Letter.the-variants.{No as NoLetter, Is as ALetter}
-use Rattle.gather.specs.Cells.{known}
-use Rattle.gather.proofs.Back.{held-back}
 use Rattle.only.proofs.Laws.{same, undone, reads}
 
 whole-of : Placed ℕ → Whole
@@ -57,14 +56,24 @@ unfolding place-of
 part-is s at Stop = refl
 part-is s at (At p) = refl
 
+-- a number that may be absent
+pub held-of : Option ℕ → Held
+held-of none = Absent
+held-of (some n) = Known n
+
+pub held-is : (r : Held) → held-of (held r) ≡ r
+unfolding held-of
+held-is Absent = refl
+held-is (Known n) = refl
+
 field-of : Placed (Option ℕ) → Field
 field-of unread = record { value = Absent; at = 0 }
 field-of (refused f) = record { value = Absent; at = 0 }
-field-of (upto v p) = record { value = known v; at = p }
+field-of (upto v p) = record { value = held-of v; at = p }
 
 field-is : (r : Field) → field-of (field r) ≡ r
 unfolding field-of
-field-is r = λ i. record { value = held-back (r .value) i; at = r .at }
+field-is r = λ i. record { value = held-is (r .value) i; at = r .at }
 
 pub byte : (s : List ℕ) (at b : ℕ) {r q : Next} → Reads s at (char b) (next r) → Reads s at (char b) (next q) → r ≡ q
 byte s at b x y = undone next place-of next-is (reads x y)

@@ -1,10 +1,8 @@
-// Runs 01's worked log as `nmea_log` does not: in parts, with a gatherer carried on, from bad places, step by step. Each row of a table
+// Runs 01's worked log as `nmea_log` does not: in parts, with a table carried on, from bad places, step by step. Each row of a table
 // is a case, and is written with the whole of what came of it; what `stdout` expects was worked out from 01's words.
 use frame::Refusal;
-use gather::row::Group;
+use gather::line::Outcome;
 use gather::table;
-use gather::table::Gatherer;
-use gather::table::Handed;
 use libc::STDOUT_FILENO;
 use log::step;
 use log::step::Stepped;
@@ -17,13 +15,13 @@ const WALK: usize = 0;
 
 const STEP: usize = 1;
 
-// A case: how many lines are taken first, which leave the gatherer; the place; the allowance of a walk.
+// A case: how many lines are taken first, which leave the table; the place; the allowance of a walk.
 const CASES: [[usize; 4]; 14] = [
     // Allowances: above the lines left, none, two.
     [WALK, 0, 0, 9],
     [WALK, 0, 0, 0],
     [WALK, 0, 0, 2],
-    // Behind the second line, with the gatherer carried on and with a fresh one.
+    // Behind the second line, with the table carried on and with a fresh one.
     [WALK, 2, 138, 9],
     [WALK, 0, 138, 9],
     // Places: within a line, past the end, the length.
@@ -68,12 +66,6 @@ fn counts(c: Counts) {
     number(c.next);
 }
 
-// The gatherer that the first lines leave.
-fn after(log: &[u8], lines: usize) -> Gatherer {
-    let w = walk::walk(log, 0, lines, table::fresh());
-    w.gatherer
-}
-
 fn tell_walked(walked: Walked) {
     match walked {
         Walked::Refused(why) => refused(why),
@@ -81,10 +73,11 @@ fn tell_walked(walked: Walked) {
     }
 }
 
+// With the table that the first lines leave.
 fn walked(log: &[u8], lines: usize, place: usize, allowance: usize) {
-    let w = walk::walk(log, place, allowance, after(log, lines));
-    let walked = w.walked;
-    tell_walked(walked);
+    let mut words = [0u32; table::WORDS];
+    walk::walk(log, 0, lines, &mut words);
+    tell_walked(walk::walk(log, place, allowance, &mut words));
 }
 
 // A line and the next place, or the end and its place.
@@ -102,25 +95,32 @@ fn tell_stepped(stepped: Stepped) {
     }
 }
 
-// n, the count in view, how many entries, and of these the first and the eleventh.
-fn tell_group(g: Group) {
+fn word(w: u32) {
+    number(w as usize);
+}
+
+// Of the first row, which is that of GPS: n, the count in view, how many entries, and of these the first and the eleventh.
+fn tell_group(words: &[u32]) {
+    if words.len() != table::WORDS {
+        return;
+    }
     say(b" group");
-    number(g.n as usize);
-    number(g.view as usize);
-    number(g.count);
-    let first = g.sats[0];
-    number(first.id as usize);
-    let eleventh = g.sats[10];
-    number(eleventh.id as usize);
+    word(words[0]);
+    word(words[2]);
+    word(words[3]);
+    word(words[4]);
+    word(words[44]);
 }
 
 fn stepped(log: &[u8], lines: usize, place: usize) {
-    let s = step::step(log, place, after(log, lines));
+    let mut words = [0u32; table::WORDS];
+    walk::walk(log, 0, lines, &mut words);
+    let s = step::step(log, place, &mut words);
     let stepped = s.stepped;
     tell_stepped(stepped);
     let handed = s.handed;
-    if let Handed::Of(_) = handed {
-        tell_group(s.group);
+    if let Outcome::Complete = handed {
+        tell_group(&words);
     }
 }
 

@@ -1,26 +1,30 @@
--- A line of `nmea_gather` is answered 4 and a row exactly where it hands out that row's group, and `nmea_row` then has the group's words.
--- (That it hands out what demand 3 says is `hands-list` of fed.) Assumes nothing.
+-- DEMAND 3, of a caller in C: `nmea_gather` on each line of any list, from a fresh table, answers 4 and a row exactly where the definition hands
+-- out a group of that row, and `nmea_row` then has the group's words. Assumes nothing.
 use Prim.Native.Nat.{ℕ, _+_, _-_, _*_}
 use native.Mathlib.Omega.{arith}
 use mathlib.Core.Path.{_≡_, refl, ap, sym, _∙_}
 use mathlib.Core.Logic.{_↔_}
-use mathlib.Core.List.{List, _∷_, _++_}
+use mathlib.Core.List.{List, [], _∷_, _++_}
 use mathlib.Core.Option.{Option, none, some, Option·none-ne-some}
-use lib.ListN.{length, getD}
+use lib.ListN.{length, take, getD, List·getD-map}
+use Rattle.frame.specs.Frame.{sized, frame}
 use Rattle.groups.specs.Log.{Group, Handed}
+use Rattle.groups.specs.Group.{HandedOut}
 use Rattle.gsv.specs.Gsv.{Satellite}
 use Rattle.rows.specs.Key.{keyOf}
-use Rattle.sentence.specs.Sentence.{GsvSentence}
+use Rattle.sentence.specs.Sentence.{GsvSentence, answer}
 use Rattle.gather.specs.Words.{satsFrom, groupOf}
-use Rattle.gather.specs.Table.{rowOf}
+use Rattle.gather.specs.Table.{freshTable, rowOf}
 use Rattle.gather.specs.declared.line.Outcome.{Outcome}
 use Rattle.gather.specs.declared.line.Outcome.the-variants.{NoRow, Nothing, Waiting, Complete}
 use Rattle.gather.proofs.Quick.{sats-long}
-use Rattle.fed.specs.Line.{Gathered}
-use Rattle.fed.specs.Seen.{handedIn, givenBy}
+use Rattle.fed.specs.Line.{blank, saidOf, saidAll, gsvOf, Gathered, gathers}
+use Rattle.fed.specs.Fed.{gathered}
+use Rattle.fed.specs.Seen.{seenOf, handedIn, givenBy, givenAt}
 use Rattle.fed.proofs.Accepted.{some-same}
+use Rattle.fed.proofs.Handing.{map-take, hands-list}
 use Rattle.capi.specs.Layout.{zeros}
-use Rattle.capi.specs.Lend.{code, lineCode, rowRoom, entriesWords, rowRead}
+use Rattle.capi.specs.Lend.{code, lineCode, gsvIn, rowRoom, entriesWords, rowRead}
 
 -- what stands in the row that a number names
 abbrev pub handedAt : ℕ → List ℕ → Handed Satellite
@@ -39,6 +43,45 @@ by-outcome Complete k κ t = (
 pub complete-gives : (x : Option GsvSentence) (a : Gathered) (κ : ℕ) → (lineCode x a ≡ 4 + κ) ↔ (givenBy x a ≡ some (handedAt κ (a .gatherer)))
 complete-gives none a κ = (λ e. absurd (omega arith), λ e. absurd (Option·none-ne-some _ e))
 complete-gives (some s) a κ = by-outcome (a .handed) (keyOf (s .system)) κ (a .gatherer)
+
+-- the table after a call for each of some lines
+abbrev pub called : List ℕ → List (List ℕ) → List ℕ
+called t [] = t
+called t (l ∷ ls) = called (gathers t (gsvIn (answer l)) .gatherer) ls
+
+-- a call does what the line does; an empty line is refused, and a blank line does nothing either
+as-said : (l : List ℕ) → gsvIn (answer l) ≡ gsvOf (saidOf l)
+unfolding answer frame sized
+as-said [] = refl
+as-said (b ∷ l) = refl
+
+called-is : (t : List ℕ) (ls : List (List ℕ)) → called t ls ≡ gathered t (saidAll ls)
+called-is t [] = refl
+called-is t (l ∷ ls) =
+    ap (λ (x : Option GsvSentence). called (gathers t x .gatherer) ls) (as-said l) ∙ called-is (gathers t (gsvOf (saidOf l)) .gatherer) ls
+
+module _ (ls : List (List ℕ)) (i : ℕ) where
+  -- the line at i, and what its call does behind the calls before it
+  abbrev pub its : Option GsvSentence
+  its = gsvIn (answer (getD ls i []))
+
+  abbrev pub itsCall : Gathered
+  itsCall = gathers (called freshTable (take i ls)) its
+
+  its-said : its ≡ gsvOf (getD (saidAll ls) i blank)
+  its-said = as-said (getD ls i []) ∙ ap gsvOf (sym (List·getD-map saidOf ls i []))
+
+  table-is : called freshTable (take i ls) ≡ gathered freshTable (take i (saidAll ls))
+  table-is = called-is freshTable (take i ls) ∙ ap (gathered freshTable) (map-take saidOf i ls)
+
+  -- THE THEOREM
+  pub calls-hand-out : (κ : ℕ) → (lineCode its itsCall ≡ 4 + κ) ↔ HandedOut (seenOf (saidAll ls)) i (handedAt κ (itsCall .gatherer))
+  calls-hand-out κ =
+      let h = handedAt κ (itsCall .gatherer) in
+      let e : givenBy its itsCall ≡ givenAt (saidAll ls) i = λ j. givenBy (its-said j) (gathers (table-is j) (its-said j)) in
+      let c = complete-gives its itsCall κ in
+      let d = hands-list ls i h in
+      (λ q. d .0 (sym e ∙ c .0 q), λ q. c .1 (e ∙ d .1 q))
 
 -- the words of a group, with the number that is waited for
 abbrev pub groupWords : ℕ → ℕ → Group Satellite → List ℕ

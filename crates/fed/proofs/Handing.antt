@@ -59,7 +59,7 @@ gives t l s (some x) q =
     ap (λ (a : Outcome). handedIn a κ (tableAfter t (lineOf x))) (table-says t l x w s)
     ∙ gives-group κ (tableAfter t (lineOf x)) (o .group) (o .row) (table-group t l x w s)
 
-map-take : {A B : Type 0} (f : A → B) (i : ℕ) (l : List A) → map f (take i l) ≡ take i (map f l)
+pub map-take : {A B : Type 0} (f : A → B) (i : ℕ) (l : List A) → map f (take i l) ≡ take i (map f l)
 map-take f zero l = refl
 map-take f (suc i) [] = refl
 map-take f (suc i) (x ∷ l) = ap (λ (r : List _). f x ∷ r) (map-take f i l)

@@ -411,7 +411,8 @@ fn summed_up() -> Vec<u8> {
         "GPGSV,1,1,01,01,,,,02,,,",
         "GPGSV,1,1,01,01,,,",
         "GPGSV,2,2,01,01,,,",
-        "GLGSV,1,1,00,",
+        "GLGSV,2,1,00,",
+        "GLGSV,2,2,00,",
         "GPGSA,A,1,,,,",
         "GNGSA,A,1,,,,",
         "GNRMC,,A,,,,,,,,,",
@@ -430,18 +431,18 @@ fn summed_up() -> Vec<u8> {
 fn a_summary() {
     let ran = run_on(&["--summary"], &summed_up());
     let mut lines = ran.out.lines().filter(|line| !line.starts_with("-:"));
-    let totals = "lines 19 blank 1 accepted 14 refused 4 groups 4";
+    let totals = "lines 20 blank 1 accepted 15 refused 4 groups 4";
     assert_eq!(lines.next(), Some(totals));
     let expected = [
         "type GSA 6",
-        "type GSV 5",
+        "type GSV 6",
         "type RMC 1",
         "type TXT 2",
         "refused 4 Syntax 2",
         "refused 6 Checksum 1",
         "refused 7 UnknownTalker 1",
         "system GPS gsv 4 gsa 5 groups 3",
-        "system GLONASS gsv 1 gsa 0 groups 1",
+        "system GLONASS gsv 2 gsa 0 groups 1",
         "gsv in no group 1",
         "groups with fewer entries than in view 1",
         "groups with more entries than in view 1",
@@ -568,9 +569,9 @@ fn objects_of_each_kind() {
 fn the_summary_as_an_object() {
     let ran = run_on(&["--json", "--summary"], &summed_up());
     let expected = concat!(
-        r#"{"kind":"summary","types":{"GSA":6,"GSV":5,"RMC":1,"TXT":2},"#,
+        r#"{"kind":"summary","types":{"GSA":6,"GSV":6,"RMC":1,"TXT":2},"#,
         r#""refusals":{"Syntax":2,"Checksum":1,"UnknownTalker":1},"#,
-        r#""systems":{"GPS":{"gsv":4,"gsa":5,"groups":3},"GLONASS":{"gsv":1,"gsa":0,"groups":1}},"#,
+        r#""systems":{"GPS":{"gsv":4,"gsa":5,"groups":3},"GLONASS":{"gsv":2,"gsa":0,"groups":1}},"#,
         r#""gsv_in_no_group":1,"groups_with_fewer":1,"groups_with_more":1,"#,
         r#""after_checksum":4,"sentence_after_checksum":2}"#,
     );
@@ -666,11 +667,12 @@ fn what_is_compressed_or_in_utf16() {
         assert_eq!(ran.out, format!("{name}: {NO_LINES}\ntotal: {NO_LINES}\n"));
         assert_eq!(ran.status, Some(1));
     }
-    // Binary bytes of another kind are lines, and refused.
-    let ran = run_on(&[], b"\0\0\0\0\0\0\0\0\0\0\n$\0\n");
-    let expected = "-:1: refused 4 Syntax\n-:2: refused 4 Syntax\n\
-                    lines 2 blank 0 accepted 0 refused 2 groups 0\n";
-    assert_eq!((ran.out.as_str(), ran.status), (expected, Some(0)));
+    // Binary bytes of another kind, and too few to tell, are lines, and refused.
+    for log in [&[0; 10][..], b"$\0G\0P\0", b"\x1F\n\x8B", b"\xFE"] {
+        let ran = run_on(&[], log);
+        assert!(ran.out.starts_with("-:1: refused "), "{}", ran.out);
+        assert_eq!((ran.error.as_str(), ran.status), ("", Some(0)));
+    }
 }
 
 #[test]

@@ -25,7 +25,7 @@ pub fn output() -> bool {
 
 #[cfg(target_os = "linux")]
 #[used]
-#[allow(unsafe_code)] // that a section is named; there is no unsafe block
+#[allow(unsafe_code)] // which naming a section counts as
 #[link_section = ".init_array"]
 static LOOK: extern "C" fn() = look;
 

@@ -160,7 +160,7 @@ impl Default for Tally {
     }
 }
 
-/// The totals so far; the table would be read as a group is, by its lines alone.
+/// The totals so far, without the words of the table.
 impl fmt::Debug for Tally {
     fn fmt(&self, f: &mut fmt::Formatter) -> fmt::Result {
         let mut shown = f.debug_struct("Tally");

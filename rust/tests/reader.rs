@@ -178,6 +178,31 @@ fn an_error_as_it_is() {
     assert!(reader.next_line().unwrap().is_none());
 }
 
+/// What no buffer may do: it has less when it is looked at again. That is an error, and no line.
+struct Shrinking(Vec<&'static [u8]>);
+
+impl Read for Shrinking {
+    fn read(&mut self, _: &mut [u8]) -> io::Result<usize> {
+        Ok(0)
+    }
+}
+
+impl BufRead for Shrinking {
+    fn fill_buf(&mut self) -> io::Result<&[u8]> {
+        Ok(self.0.pop().unwrap_or_default())
+    }
+
+    fn consume(&mut self, _: usize) {}
+}
+
+#[test]
+fn an_input_whose_buffer_shrinks() {
+    let mut reader = Reader::new(Shrinking(vec![b"ab", b"abc\n"]));
+    let end = reader.next_line().unwrap_err();
+    assert_eq!((end.line, end.error.kind()), (1, ErrorKind::InvalidData));
+    assert_eq!(reader.totals().lines, 0);
+}
+
 #[test]
 fn the_longest_line() {
     let longest = LONGEST_LINE as u64;

@@ -106,7 +106,7 @@ impl Run<'_> {
     /// The totals of a log, each with a table of its own; none where nothing
     /// could be read, and those of a part where only that could be.
     fn over(&mut self, input: &Input) -> io::Result<Option<Totals>> {
-        let opened = match self.open(input) {
+        let opened = match Self::open(input) {
             Ok(opened) => opened,
             Err(why) => {
                 self.fail(input, &why)?;
@@ -145,14 +145,13 @@ impl Run<'_> {
         }
     }
 
-    fn open(&self, input: &Input) -> io::Result<Box<dyn io::Read>> {
+    fn open(input: &Input) -> io::Result<Box<dyn io::Read>> {
         if let Input::Standard = input {
             if closed::input() {
                 return Err(io::Error::other("standard input is closed"));
             }
             if io::stdin().is_terminal() {
-                let what = "reading the log from the terminal, to its end (Ctrl-D)";
-                self.output.borrow_mut().tell(what)?;
+                tell("reading the log from the terminal, to its end (Ctrl-D)");
             }
         }
         input.open()

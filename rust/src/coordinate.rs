@@ -1,3 +1,5 @@
+use std::fmt;
+
 use crate::words::{Unfit, Words};
 
 letters! {
@@ -53,5 +55,17 @@ impl Position {
             latitude: Coordinate::of(words, at)?,
             longitude: Coordinate::of(words, at + 4)?,
         })
+    }
+}
+
+/// Whole degrees, minutes with all nine decimals, and the letter, exactly: as
+/// in `51 30.500000000 N`.
+impl fmt::Display for Coordinate {
+    fn fmt(&self, f: &mut fmt::Formatter) -> fmt::Result {
+        let minutes = self.billionths.unsigned_abs() / 1_000_000_000;
+        let billionths = self.billionths.unsigned_abs() % 1_000_000_000;
+        let (degrees, minutes) = (minutes / 60, minutes % 60);
+        let letter = self.hemisphere.letter();
+        write!(f, "{degrees} {minutes:02}.{billionths:09} {letter}")
     }
 }

@@ -24,6 +24,27 @@ impl Decimal {
             value: f32::from_bits(words.number(at + 3)?),
         })
     }
+
+    /// The float of 64 bits that is nearest to it: the whole number divided
+    /// once by the power of ten, both of which are exact.
+    pub fn to_f64(&self) -> f64 {
+        let power = (0..self.decimals).fold(1.0, |power, _| power * 10.0);
+        // The sign is the float's, since minus zero has none as a whole number.
+        let size = f64::from(self.whole.unsigned_abs()) / power;
+        size.copysign(self.value.into())
+    }
+}
+
+impl From<Decimal> for f64 {
+    fn from(decimal: Decimal) -> Self {
+        decimal.to_f64()
+    }
+}
+
+impl From<Decimal> for f32 {
+    fn from(decimal: Decimal) -> Self {
+        decimal.value
+    }
 }
 
 /// The exact decimal, as in `4.5`, `270.0` or `-0`.

@@ -1,12 +1,13 @@
-//! Satellite groups, gathered from GSV sentences by `docs/01-scope.md`'s
-//! rules. This is plain Rust, for logs of any size; [`crate::walk`] gathers by
-//! proved code, and the tests hold the two together.
-
-use crate::{Entry, Gsv, System};
+use crate::{
+    abi::{self, ROW_WORDS},
+    words::{Unfit, Words},
+    Entry, System,
+};
 
 /// The satellites that one system has in view: a whole list, from sentences
-/// that stood in the log complete and in order.
+/// that stood in the log complete and in order. Proved code puts it together.
 #[derive(Clone, Debug, PartialEq, Eq, Hash)]
+#[non_exhaustive]
 pub struct Group {
     /// The system; its talkers count together.
     pub system: System,
@@ -16,64 +17,40 @@ pub struct Group {
     pub in_view: u16,
     /// The entries that were present, in order, at most 36.
     pub entries: Vec<Entry>,
+    /// The numbers of the lines that the sentences stood in, from 1 on.
+    pub lines: Vec<u64>,
 }
 
-/// Puts groups together from the GSV sentences of one log.
-#[derive(Clone, Debug, Default)]
-pub struct Gatherer {
-    /// The run that stands, for each system.
-    rows: [Option<Run>; System::ALL.len()],
-}
-
-/// A group as far as it has come.
-#[derive(Clone, Debug)]
-struct Run {
-    group: Group,
-    /// The number of the sentence that it waits for.
-    next: u16,
-}
-
-impl Gatherer {
+impl Group {
     /// The most sentences that a group may have.
-    pub const SENTENCES: u16 = 9;
+    pub const SENTENCES: usize = 9;
 
-    /// A gatherer in which no run stands.
-    pub fn new() -> Self {
-        Gatherer::default()
-    }
+    /// The most entries that a group may have.
+    pub const ENTRIES: usize = 36;
 
-    /// Takes the next accepted GSV sentence, and hands out the group that it completes.
-    pub fn put(&mut self, line: &Gsv) -> Option<Group> {
-        let row = &mut self.rows[line.system as usize - 1];
-        // Whatever does not continue the run breaks it.
-        let stood = row.take();
-        if line.sentences > Gatherer::SENTENCES || !(1..=line.sentences).contains(&line.number) {
-            return None;
+    /// The group that a row of the table is; the lines are those of its sentences, from the first on.
+    pub(crate) fn of(table: &[u32], row: usize, lines: &[u64]) -> Result<Self, Unfit> {
+        let mut words = [0; ROW_WORDS];
+        // It is 0 only for a row that no line completed, and then the system is unfit.
+        abi::row(table, row, &mut words);
+        let words = Words(&words);
+        let sentences = words.number(1)?;
+        let count: usize = words.number(4)?;
+        if count > Group::ENTRIES {
+            return Err(words.unfit(4));
         }
-        let mut group = match stood {
-            // A first sentence starts anew, also where a run stands.
-            _ if line.number == 1 => Group {
-                system: line.system,
-                sentences: line.sentences,
-                in_view: line.in_view,
-                entries: vec![],
-            },
-            Some(run) if run.waits_for(line) => run.group,
-            _ => return None,
-        };
-        group.entries.extend(line.satellites());
-        if line.number == line.sentences {
-            return Some(group);
-        }
-        let next = line.number + 1;
-        *row = Some(Run { group, next });
-        None
-    }
-}
-
-impl Run {
-    fn waits_for(&self, line: &Gsv) -> bool {
-        let head = (self.next, self.group.sentences, self.group.in_view);
-        head == (line.number, line.sentences, line.in_view)
+        let entries = (0..count).map(|i| words.part(5 + i * Entry::WORDS, Entry::of));
+        Ok(Group {
+            system: System::of(&words, 0)?,
+            sentences,
+            in_view: words.number(3)?,
+            entries: entries
+                .flat_map(Result::transpose)
+                .collect::<Result<_, _>>()?,
+            lines: lines
+                .get(..sentences.into())
+                .ok_or_else(|| words.unfit(1))?
+                .to_vec(),
+        })
     }
 }

@@ -38,6 +38,7 @@ pub struct Dops {
 
 /// A GSA sentence: the satellites of the fix and its precision.
 #[derive(Clone, Debug, PartialEq)]
+#[non_exhaustive]
 pub struct Gsa {
     /// Who sent it.
     pub talker: Talker,

@@ -18,6 +18,7 @@ pub struct Entry {
 
 /// A GSV sentence: a part of the list of satellites in view.
 #[derive(Clone, Copy, Debug, PartialEq, Eq, Hash)]
+#[non_exhaustive]
 pub struct Gsv {
     /// Who sent it.
     pub talker: Talker,
@@ -34,7 +35,10 @@ pub struct Gsv {
 }
 
 impl Entry {
-    fn of(words: &Words, at: usize) -> Result<Self, Unfit> {
+    /// The words of an entry, with the one before it that says whether it is present.
+    pub(crate) const WORDS: usize = 8;
+
+    pub(crate) fn of(words: &Words, at: usize) -> Result<Self, Unfit> {
         Ok(Entry {
             satellite: words.number(at)?,
             elevation: words.part(at + 1, Words::number)?,

@@ -22,10 +22,10 @@
 //! # Ok::<(), Refusal>(())
 //! ```
 //!
-//! A small log is counted whole by [`walk`], which is proved. One of any size
-//! is counted line by line by a [`Tally`], which gathers satellite groups by
-//! the same rules in plain Rust and is tested against [`walk`]; the program
-//! `transfer` is made of it.
+//! A log of any size is read line by line by a [`Reader`]: each line's answer,
+//! and the satellite groups that stand in the log. Both come from proved code;
+//! cutting the log into lines is plain Rust. A [`Tally`] takes lines that are
+//! cut already. The totals of a small log are counted by [`walk`] in one call.
 //!
 //! What is read, and how, is in the repository's `docs/01-scope.md`, the
 //! refusals and letters in `docs/LISTS.md`.
@@ -43,24 +43,28 @@ mod groups;
 mod gsa;
 mod gsv;
 mod log;
+mod reader;
 mod refusal;
 mod rmc;
 mod sentence;
 mod system;
+mod tally;
 mod time;
 mod words;
 
 pub use coordinate::{Coordinate, Hemisphere, Position};
 pub use decimal::Decimal;
-pub use groups::{Gatherer, Group};
+pub use groups::Group;
 pub use gsa::{Dops, Fix, Gsa, Selection};
 pub use gsv::{Entry, Gsv};
 pub use letters::{Letters, Talker, TypeName};
-pub use log::{walk, Tally, Totals};
+pub use log::{walk, Totals};
+pub use reader::{ReadError, Reader, LONGEST_LINE};
 pub use refusal::Refusal;
 pub use rmc::{Mode, NavigationalStatus, Rmc, Status};
 pub use sentence::{read, refusal_number, Sentence};
 pub use system::System;
+pub use tally::{Answer, Kind, Line, Tally};
 pub use time::{Date, Time};
 
 /// So that the example of the README is run.

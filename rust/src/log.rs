@@ -1,9 +1,10 @@
 use std::{fmt, ops::AddAssign};
 
-use crate::{abi, read, refusal_number, Gatherer, Group, Refusal, Sentence};
+use crate::{abi, Refusal};
 
 /// What a log has.
 #[derive(Clone, Copy, Debug, Default, PartialEq, Eq, Hash)]
+#[non_exhaustive]
 pub struct Totals {
     /// Its lines: blank, accepted and refused.
     pub lines: u64,
@@ -60,68 +61,4 @@ pub fn walk(log: &[u8]) -> Result<Totals, Refusal> {
         refused,
         groups,
     })
-}
-
-/// Counts a log of any size, line by line.
-///
-/// ```
-/// use proved_nmea::{walk, Tally};
-///
-/// let log = b"$GPGSA,A,1,,,,*32\r\n\r\n$GPGSV,1,1,00,*55\r\nnonsense";
-/// let mut tally = Tally::new();
-/// for line in log.split_inclusive(|&byte| byte == b'\n') {
-///     match tally.add(line) {
-///         Ok(Some(group)) => assert_eq!(group.in_view, 0),
-///         Ok(None) => {}
-///         Err(refusal) => assert_eq!(refusal.to_string(), "refused 4 Syntax"),
-///     }
-/// }
-/// assert_eq!(tally.totals().to_string(), "lines 4 blank 1 accepted 2 refused 1 groups 1");
-/// assert_eq!(Ok(tally.totals()), walk(log));
-/// ```
-#[derive(Clone, Debug, Default)]
-pub struct Tally {
-    totals: Totals,
-    gatherer: Gatherer,
-}
-
-impl Tally {
-    /// A tally at the start of a log.
-    pub fn new() -> Self {
-        Tally::default()
-    }
-
-    /// The totals of the lines so far.
-    pub fn totals(&self) -> Totals {
-        self.totals
-    }
-
-    /// Counts the log's next line, given up to and with its line feed if it
-    /// has one, and hands out the group that the line completes.
-    pub fn add(&mut self, line: &[u8]) -> Result<Option<Group>, Refusal> {
-        let line = without_end(line);
-        self.totals.lines += 1;
-        if line.is_empty() {
-            self.totals.blank += 1;
-            return Ok(None);
-        }
-        // The number alone decides; the record is for the group, or for what the refusal carries.
-        match refusal_number(line) {
-            0 => self.totals.accepted += 1,
-            _ => self.totals.refused += 1,
-        }
-        let group = match read(line)? {
-            Sentence::Gsv(record) => self.gatherer.put(&record),
-            _ => None,
-        };
-        self.totals.groups += u64::from(group.is_some());
-        Ok(group)
-    }
-}
-
-/// The line without its line feed, and without one carriage return before it
-/// or at the end of the log.
-fn without_end(line: &[u8]) -> &[u8] {
-    let line = line.strip_suffix(b"\n").unwrap_or(line);
-    line.strip_suffix(b"\r").unwrap_or(line)
 }

@@ -7,6 +7,7 @@ use crate::{
 
 /// Why a line or a log is not accepted, with the values that it carries.
 #[derive(Clone, Copy, Debug, PartialEq, Eq, Hash)]
+#[non_exhaustive]
 pub enum Refusal {
     /// The line is not UTF-8.
     BadUtf8,

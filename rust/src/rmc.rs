@@ -1,3 +1,5 @@
+use std::time::Duration;
+
 use crate::{
     words::{Unfit, Words},
     Date, Decimal, Position, Time,
@@ -5,6 +7,7 @@ use crate::{
 
 letters! {
     /// Whether the fix of an RMC sentence holds.
+    #[non_exhaustive]
     Status {
         /// A fix by the receiver alone.
         Autonomous = b'A',
@@ -17,6 +20,7 @@ letters! {
 
 letters! {
     /// How the fix of an RMC sentence was made.
+    #[non_exhaustive]
     Mode {
         /// By the receiver alone.
         Autonomous = b'A',
@@ -45,6 +49,7 @@ letters! {
 
 letters! {
     /// The navigational status of an RMC sentence.
+    #[non_exhaustive]
     NavigationalStatus {
         /// Autonomous.
         Autonomous = b'A',
@@ -65,6 +70,7 @@ letters! {
 
 /// An RMC sentence: when, where, and which way.
 #[derive(Clone, Copy, Debug, PartialEq)]
+#[non_exhaustive]
 pub struct Rmc {
     /// When the fix was made.
     pub time: Option<Time>,
@@ -99,5 +105,18 @@ impl Rmc {
             mode: words.unless_zero(35, Mode::of)?,
             navigational_status: words.unless_zero(36, NavigationalStatus::of)?,
         })
+    }
+
+    /// The time since 1970-01-01 00:00:00 UTC, where there are a date and a
+    /// time. Leap seconds are not counted, as in Unix time; no time of a
+    /// sentence is within one, since second 60 is refused.
+    ///
+    /// `std::time::UNIX_EPOCH` and this make a `SystemTime`.
+    pub fn timestamp(&self) -> Option<Duration> {
+        let (date, time) = (self.date?, self.time?);
+        let days = u64::try_from(date.days_since_1970()).ok()?;
+        let [hour, minute, second] = [time.hour, time.minute, time.second].map(u64::from);
+        let seconds = ((days * 24 + hour) * 60 + minute) * 60 + second;
+        Some(Duration::from_secs(seconds) + Duration::from_nanos(time.nanosecond.into()))
     }
 }

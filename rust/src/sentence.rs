@@ -1,11 +1,12 @@
 use crate::{
-    abi,
-    words::{Unfit, Words},
+    abi::{self, WORDS},
+    words::{proved, Unfit, Words},
     Gsa, Gsv, Refusal, Rmc, TypeName,
 };
 
 /// What an accepted line says.
 #[derive(Clone, Debug, PartialEq)]
+#[non_exhaustive]
 pub enum Sentence {
     /// When, where, and which way.
     Rmc(Rmc),
@@ -17,6 +18,18 @@ pub enum Sentence {
     Other(TypeName),
 }
 
+impl Sentence {
+    /// Its type.
+    pub fn type_name(&self) -> TypeName {
+        match self {
+            Sentence::Rmc(_) => TypeName::RMC,
+            Sentence::Gsa(_) => TypeName::GSA,
+            Sentence::Gsv(_) => TypeName::GSV,
+            Sentence::Other(name) => *name,
+        }
+    }
+}
+
 /// Reads a line, without its line end, of any bytes.
 ///
 /// # Panics
@@ -25,9 +38,10 @@ pub enum Sentence {
 /// `docs/ABI.md`; one of another making, linked in its place, may answer
 /// something else, and that is told by a panic.
 pub fn read(line: &[u8]) -> Result<Sentence, Refusal> {
-    answer(&Words::of(line)).unwrap_or_else(|unfit| {
-        panic!("the linked libcapi.a is not the proved one: in its answer, {unfit}")
-    })
+    let mut words = [0; WORDS];
+    // It is 0 only for a buffer too short, and then word 0 is unfit.
+    abi::answer(line, &mut words);
+    proved(answer(&Words(&words)))
 }
 
 /// The number of the line's refusal, 0 if [`read`] accepts it.
@@ -35,7 +49,8 @@ pub fn refusal_number(line: &[u8]) -> u32 {
     abi::refusal(line)
 }
 
-fn answer(words: &Words) -> Result<Result<Sentence, Refusal>, Unfit> {
+/// What the words of an answer say.
+pub(crate) fn answer(words: &Words) -> Result<Result<Sentence, Refusal>, Unfit> {
     Ok(match words.word(0)? {
         1 => Ok(Sentence::Rmc(Rmc::of(words)?)),
         2 => Ok(Sentence::Gsa(Gsa::of(words)?)),

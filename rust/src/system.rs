@@ -5,6 +5,7 @@ use crate::words::{Unfit, Words};
 /// A satellite system.
 #[derive(Clone, Copy, Debug, PartialEq, Eq, PartialOrd, Ord, Hash)]
 #[repr(u8)]
+#[non_exhaustive]
 pub enum System {
     /// The system of the USA.
     Gps = 1,

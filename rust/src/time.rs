@@ -45,6 +45,18 @@ impl Date {
             day: words.number(at + 2)?,
         })
     }
+
+    /// The days from 1970-01-01 to this one.
+    pub fn days_since_1970(&self) -> i64 {
+        let [year, month, day] = [self.year.into(), self.month.into(), self.day.into()];
+        // Years from March on, so that a leap day is the last of its year: 153 days are five months.
+        let [year, month]: [i64; 2] = match month {
+            1 | 2 => [year - 1, month + 9],
+            _ => [year, month - 3],
+        };
+        let leap_days = year.div_euclid(4) - year.div_euclid(100) + year.div_euclid(400);
+        365 * year + leap_days + (153 * month + 2).div_euclid(5) + day - 719_469
+    }
 }
 
 /// As ISO 8601 writes it, with all nine decimals.

@@ -1,32 +1,29 @@
-//! The words of an answer, by their places in `docs/ABI.md`.
+//! The words of an answer or of a row, by their places in `docs/ABI.md`.
 
 use std::fmt;
 
-use crate::abi::{self, WORDS};
-
-/// The words of one answer.
-pub(crate) struct Words([u64; WORDS]);
+/// The words of one answer, or of one row.
+pub(crate) struct Words<'a>(pub(crate) &'a [u64]);
 
 /// A word that the ABI does not allow at its place.
 ///
 /// That none comes is proved of the library: each word of an answer is the
 /// one that its contract names. So this error is the one place for what could
-/// only be a library of another making, and [`crate::read`] says so.
+/// only be a library of another making, and [`proved`] says so.
 #[derive(Debug)]
 pub(crate) struct Unfit {
     at: usize,
     word: Option<u64>,
 }
 
-impl Words {
-    /// The library's answer to a line.
-    pub(crate) fn of(line: &[u8]) -> Self {
-        let mut words = [0; WORDS];
-        // It is 0 only for a buffer too short, and then word 0 is unfit.
-        abi::answer(line, &mut words);
-        Words(words)
-    }
+/// What the words say, which those of the proved library always do.
+pub(crate) fn proved<T>(said: Result<T, Unfit>) -> T {
+    said.unwrap_or_else(|unfit| {
+        panic!("the linked libcapi.a is not the proved one: in its answer, {unfit}")
+    })
+}
 
+impl Words<'_> {
     pub(crate) fn word(&self, at: usize) -> Result<u64, Unfit> {
         self.0.get(at).copied().ok_or_else(|| self.unfit(at))
     }
@@ -86,10 +83,11 @@ impl fmt::Display for Unfit {
 #[cfg(test)]
 mod tests {
     use super::*;
+    use crate::abi::WORDS;
 
     #[test]
     fn an_unfit_word_is_named() {
-        let words = Words([300; WORDS]);
+        let words = Words(&[300; WORDS]);
         let told = |unfit: Unfit| unfit.to_string();
         assert_eq!(words.number::<u16>(1).map_err(told), Ok(300));
         assert_eq!(
@@ -105,7 +103,7 @@ mod tests {
 
     #[test]
     fn parts_that_are_absent() {
-        let words = Words([0; WORDS]);
+        let words = Words(&[0; WORDS]);
         assert!(matches!(words.part(1, Words::number::<u8>), Ok(None)));
         assert!(matches!(
             words.unless_zero(1, Words::number::<u8>),

@@ -1,61 +1,63 @@
-//! The gatherer, against 01's words and against the proved walk.
+//! The groups of a log, against 01's words, the plain gatherer and the proved walk.
 
 mod common;
 
 use std::fs;
 
 use common::{
-    corpus, gsv, lines_of, log_of, tally, with_checksum, worked_log, Random, GSV_1, GSV_2, GSV_3,
-    WORKED_TOTALS,
+    corpus,
+    gatherer::{gathered, gsv_lines, Handed},
+    held, log_of,
+    logs::{damaged, generated},
+    worked_log, Random, GSV_1, GSV_2, GSV_3, WORKED_TOTALS,
 };
-use proved_nmea::{read, walk, Entry, Gatherer, Group, Gsv, Sentence, System};
+use proved_nmea::{Entry, Gsv, System};
 
 /// The longest log that the walk takes.
 const LONGEST: usize = 65_536;
 
-/// What the tally counts, which is what the walk counts.
+/// What each way of counting counts.
 fn totals(log: &[u8]) -> String {
-    let totals = tally(log);
-    assert_eq!(walk(log), Ok(totals), "{}", log.escape_ascii());
-    totals.to_string()
+    held(log, 1 << 16).0.to_string()
 }
 
-fn groups(bodies: &[&str]) -> u64 {
-    let log = log_of(bodies);
-    totals(&log);
-    tally(&log).groups
+fn handed(bodies: &[&str]) -> Vec<Handed> {
+    held(&log_of(bodies), 1 << 16).1
 }
 
-/// The groups that each line completes.
-fn handed_out(records: &[Gsv]) -> Vec<Option<Group>> {
-    let mut gatherer = Gatherer::new();
-    records.iter().map(|record| gatherer.put(record)).collect()
+fn groups(bodies: &[&str]) -> usize {
+    handed(bodies).len()
+}
+
+fn satellites(group: &Handed) -> Vec<u32> {
+    group.entries.iter().map(|entry| entry.satellite).collect()
 }
 
 /// The group that the last of these lines completes, by 01's words: n accepted
 /// GSV lines of one system numbered 1 to n, n from 1 to 9, with equal n and
 /// equal in-view count, and no other of that system between them.
-fn group_at_the_end(records: &[Gsv]) -> Option<Group> {
-    let last = records.last()?;
+fn group_at_the_end(records: &[(u64, Gsv)]) -> Option<Handed> {
+    let (_, last) = records.last()?;
     let n = last.sentences;
     if !(1..=9).contains(&n) {
         return None;
     }
-    let own: Vec<&Gsv> = records
+    let own: Vec<&(u64, Gsv)> = records
         .iter()
-        .filter(|record| record.system == last.system)
+        .filter(|(_, record)| record.system == last.system)
         .collect();
     let run = &own[own.len().checked_sub(n.into())?..];
-    let fits = (1..).zip(run).all(|(number, record)| {
+    let fits = (1..).zip(run).all(|(number, (_, record))| {
         (record.number, record.sentences, record.in_view) == (number, n, last.in_view)
     });
-    fits.then(|| Group {
+    fits.then(|| Handed {
+        lines: run.iter().map(|(at, _)| *at).collect(),
         system: last.system,
         sentences: n,
         in_view: last.in_view,
         entries: run
             .iter()
-            .flat_map(|record| record.entries)
+            .flat_map(|(_, record)| record.entries)
             .flatten()
             .collect(),
     })
@@ -71,15 +73,16 @@ fn the_worked_log() {
 
 #[test]
 fn the_worked_group() {
-    let handed = handed_out(&[gsv(GSV_1), gsv(GSV_2), gsv(GSV_3)]);
-    assert_eq!(handed[..2], [None, None]);
-    let group = handed[2].as_ref().expect("a group at its last line");
+    let (_, groups) = held(worked_log("\n").as_bytes(), 1 << 16);
+    let [group] = &groups[..] else {
+        panic!("one group, and not {}", groups.len());
+    };
+    assert_eq!(group.lines, [1, 2, 3]);
     assert_eq!(
         (group.system, group.sentences, group.in_view),
         (System::Gps, 3, 11)
     );
-    let satellites: Vec<u32> = group.entries.iter().map(|entry| entry.satellite).collect();
-    assert_eq!(satellites, [3, 4, 6, 13, 14, 16, 18, 19, 22, 24, 27]);
+    assert_eq!(satellites(group), [3, 4, 6, 13, 14, 16, 18, 19, 22, 24, 27]);
     let last = Entry {
         satellite: 27,
         elevation: Some(5),
@@ -87,6 +90,21 @@ fn the_worked_group() {
         signal: Some(0),
     };
     assert_eq!(group.entries.last(), Some(&last));
+}
+
+/// One cable, two receivers with one talker: what a group is by 01's words.
+#[test]
+fn two_receivers_interleaved() {
+    let log = [
+        "GPGSV,2,1,05,01,10,100,40,02,20,110,41,03,30,120,42,04,40,130,43",
+        "GPGSV,2,1,05,11,11,101,30,12,21,111,31,13,31,121,32,14,41,131,33",
+        "GPGSV,2,2,05,05,50,140,44",
+        "GPGSV,2,2,05,15,51,141,34",
+    ];
+    let groups = handed(&log);
+    assert_eq!(groups.len(), 1);
+    assert_eq!(groups[0].lines, [2, 3]);
+    assert_eq!(satellites(&groups[0]), [11, 12, 13, 14, 5]);
 }
 
 #[test]
@@ -111,17 +129,30 @@ fn lines_and_their_ends() {
 #[test]
 fn lists_of_one_sentence_and_of_nine() {
     assert_eq!(groups(&["GPGSV,1,1,00,"]), 1);
-    let records: Vec<Gsv> = (1..=9)
+    let lines: Vec<String> = (1..=9)
         .map(|number| {
             format!("GAGSV,9,{number},36,{number}1,,,,{number}2,,,,{number}3,,,,{number}4,,,")
         })
-        .map(|body| gsv(&with_checksum(&body)))
         .collect();
-    let handed = handed_out(&records);
-    assert!(handed[..8].iter().all(Option::is_none));
-    let group = handed[8].as_ref().expect("a group of nine");
-    assert_eq!(group.entries.len(), 36);
-    assert_eq!(group.system, System::Galileo);
+    let lines: Vec<&str> = lines.iter().map(String::as_str).collect();
+    let groups = handed(&lines);
+    assert_eq!(groups.len(), 1);
+    assert_eq!(groups[0].lines, [1, 2, 3, 4, 5, 6, 7, 8, 9]);
+    assert_eq!(groups[0].entries.len(), 36);
+    assert_eq!(groups[0].system, System::Galileo);
+}
+
+/// A satellite's number may be any, also the one that stands for absence elsewhere in a row.
+#[test]
+fn the_largest_satellite() {
+    let groups = handed(&["GPGSV,1,1,01,4294967295,2147483647,0,"]);
+    let entry = Entry {
+        satellite: 4_294_967_295,
+        elevation: Some(2_147_483_647),
+        azimuth: Some(0),
+        signal: None,
+    };
+    assert_eq!(groups[0].entries, [entry]);
 }
 
 #[test]
@@ -210,17 +241,13 @@ fn what_does_not_break_a_run() {
 fn a_first_sentence_starts_anew() {
     let again = ["GPGSV,2,1,05,", "GPGSV,2,1,06,", "GPGSV,2,2,06,"];
     assert_eq!(groups(&again), 1);
-    let records: Vec<Gsv> = [
+    let again = handed(&[
         "GPGSV,2,1,02,01,,,",
         "GPGSV,2,1,02,11,,,",
         "GPGSV,2,2,02,12,,,",
-    ]
-    .iter()
-    .map(|body| gsv(&with_checksum(body)))
-    .collect();
-    let group = handed_out(&records).pop().flatten().expect("a group");
-    let satellites: Vec<u32> = group.entries.iter().map(|entry| entry.satellite).collect();
-    assert_eq!(satellites, [11, 12]);
+    ]);
+    assert_eq!(satellites(&again[0]), [11, 12]);
+    assert_eq!(again[0].lines, [2, 3]);
     // What was handed out does not stand any more.
     assert_eq!(
         groups(&["GPGSV,2,1,05,", "GPGSV,2,2,05,", "GPGSV,2,2,05,"]),
@@ -230,71 +257,8 @@ fn a_first_sentence_starts_anew() {
 
 // Generated logs
 
-const TALKERS: [&str; 10] = ["GP", "GL", "GA", "GB", "BD", "GI", "GQ", "PQ", "QZ", "GN"];
-
-/// The list that a talker is sending.
-#[derive(Clone, Copy, Default)]
-struct Sending {
-    sentences: usize,
-    number: usize,
-    in_view: usize,
-}
-
-/// Lists of several talkers in turn, in which some lines are wrong or missing.
-fn generated(random: &mut Random, length: usize) -> Vec<u8> {
-    let count = 1 + random.below(4);
-    let talkers: Vec<&str> = (0..count).map(|_| random.pick(&TALKERS)).collect();
-    // How often something is off, from never to nearly always.
-    let odd_in = random.pick(&[2, 5, 20, 100, 1_000_000]);
-    let mut sending = vec![Sending::default(); talkers.len()];
-    let mut log = vec![];
-    loop {
-        let line = match random.below(8) {
-            0 if random.one_in(odd_in) => random.pick(&["", "x", "$GPGSV", "\u{e9}", "\0"]).into(),
-            0 => with_checksum("GPTXT,i"),
-            _ => {
-                let at = random.below(talkers.len());
-                gsv_line(random, odd_in, talkers[at], &mut sending[at])
-            }
-        };
-        let end = random.pick(&["\n", "\n", "\r\n", "\r\r\n"]);
-        if log.len() + line.len() + end.len() > length {
-            return log;
-        }
-        log.extend(line.bytes().chain(end.bytes()));
-    }
-}
-
-fn gsv_line(random: &mut Random, odd_in: usize, talker: &str, list: &mut Sending) -> String {
-    list.number += 1;
-    if list.number > list.sentences || random.one_in(odd_in) {
-        *list = Sending {
-            sentences: 1 + random.below(9),
-            number: 1,
-            in_view: random.below(3),
-        };
-    }
-    let mut line = *list;
-    let off = |random: &mut Random, right| match random.one_in(odd_in) {
-        true => random.pick(&[0, 1, 2, 3, 9, 10, 11, 65_535]),
-        false => right,
-    };
-    line.sentences = off(random, line.sentences);
-    line.number = off(random, line.number);
-    line.in_view = off(random, line.in_view);
-    let entries: String = (0..random.below(5))
-        .map(|_| format!("{},,,,", random.below(99)))
-        .collect();
-    let sentence = with_checksum(&format!(
-        "{talker}GSV,{},{},{},{entries}",
-        line.sentences, line.number, line.in_view
-    ));
-    match random.one_in(odd_in * 4) {
-        // Damage, which the checksum finds.
-        true => sentence.replacen(',', ";", 2),
-        false => sentence,
-    }
-}
+/// Buffers that cut lines at all places, and those that hold many.
+const CAPACITIES: [usize; 7] = [1, 2, 7, 31, 64, 300, 1 << 16];
 
 #[test]
 fn generated_logs() {
@@ -303,32 +267,41 @@ fn generated_logs() {
     for round in 0..400 {
         let length = if round % 20 == 0 { LONGEST } else { 3_000 };
         let log = generated(&mut random, length);
-        totals(&log);
-        groups += tally(&log).groups;
+        groups += held(&log, random.pick(&CAPACITIES)).1.len();
     }
     assert!(groups > 1_000, "{groups} groups are too few for a test");
 }
 
 #[test]
+fn damaged_logs() {
+    let mut random = Random::new(5);
+    let (mut groups, mut refused) = (0, 0);
+    for _ in 0..400 {
+        let log = generated(&mut random, 3_000);
+        let log = damaged(&mut random, log);
+        let (totals, handed) = held(&log, random.pick(&CAPACITIES));
+        groups += handed.len();
+        refused += totals.refused;
+    }
+    assert!(groups > 1_000, "{groups} groups are too few for a test");
+    assert!(refused > 1_000, "{refused} refusals are too few for a test");
+}
+
+#[test]
 fn generated_groups_by_the_definition() {
     let mut random = Random::new(4);
-    let mut groups = 0;
+    let mut count = 0;
     for _ in 0..300 {
         let log = generated(&mut random, 3_000);
-        let records: Vec<Gsv> = lines_of(&log)
-            // What follows a checksum is ignored, so that the line's whole end may go.
-            .filter_map(|line| match read(line.trim_ascii_end()) {
-                Ok(Sentence::Gsv(record)) => Some(record),
-                _ => None,
-            })
+        let records = gsv_lines(&log);
+        let expected: Vec<Handed> = (1..=records.len())
+            .filter_map(|end| group_at_the_end(&records[..end]))
             .collect();
-        let handed = handed_out(&records);
-        groups += handed.iter().flatten().count();
-        for (i, group) in handed.into_iter().enumerate() {
-            assert_eq!(group, group_at_the_end(&records[..=i]), "{:?}", records[i]);
-        }
+        assert_eq!(gathered(&log), expected, "{}", log.escape_ascii());
+        assert_eq!(held(&log, 1 << 16).1, expected, "{}", log.escape_ascii());
+        count += expected.len();
     }
-    assert!(groups > 500, "{groups} groups are too few for a test");
+    assert!(count > 500, "{count} groups are too few for a test");
 }
 
 #[test]
@@ -339,12 +312,7 @@ fn corpus_logs() {
     }
     for path in logs {
         let log = fs::read(&path).expect("a log of the corpus");
-        let mut log = &log[..log.len().min(LONGEST)];
-        // Cut at a line feed, as a log may be parted.
-        if log.len() == LONGEST {
-            let end = log.iter().rposition(|&byte| byte == b'\n');
-            log = &log[..end.map_or(LONGEST, |end| end + 1)];
-        }
-        totals(log);
+        held(&log, 1 << 16);
+        held(&log, 50);
     }
 }

@@ -2,8 +2,8 @@
 
 mod common;
 
-use common::{with_checksum, Random, GSV_1};
-use proved_nmea::{read, refusal_number, walk, Letters, Refusal, System};
+use common::{letters, with_checksum, Random, GSV_1};
+use proved_nmea::{read, refusal_number, walk, Refusal, System};
 
 fn refused(line: &[u8]) -> Refusal {
     match read(line) {
@@ -47,7 +47,7 @@ fn checksum() {
 fn unknown_type_and_talker() {
     assert_eq!(refused(b"$GPXYZ"), Refusal::UnknownType);
     let line = with_checksum("IDGSV,2,1,08,01,40,083,46");
-    let expected = Refusal::UnknownTalker(Letters(*b"ID"));
+    let expected = Refusal::UnknownTalker(letters(b"ID"));
     assert_eq!(refused(line.as_bytes()), expected);
 }
 
@@ -79,7 +79,6 @@ fn numbers_times_and_dates() {
 /// Every refusal with its number, and as it is printed.
 #[test]
 fn all_thirteen() {
-    let name = |letters: &[u8; 3]| Letters(*letters);
     let table = [
         (Refusal::BadUtf8, "refused 1 BadUtf8"),
         (Refusal::NotAscii, "refused 2 NotAscii"),
@@ -94,7 +93,7 @@ fn all_thirteen() {
             "refused 6 Checksum (calculated 5C, found 0D)",
         ),
         (
-            Refusal::UnknownTalker(Letters(*b"I\t")),
+            Refusal::UnknownTalker(letters(b"I\t")),
             "refused 7 UnknownTalker (talker I\\t)",
         ),
         (
@@ -107,8 +106,8 @@ fn all_thirteen() {
         (Refusal::Number, "refused 9 Number"),
         (
             Refusal::WrongHeader {
-                expected: name(b"RMC"),
-                found: name(b"GSV"),
+                expected: letters(b"RMC"),
+                found: letters(b"GSV"),
             },
             "refused 10 WrongHeader (expected RMC, found GSV)",
         ),

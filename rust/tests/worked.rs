@@ -3,7 +3,7 @@
 
 mod common;
 
-use common::{gsa, gsv, rmc, with_checksum, GSV_1, GSV_2, GSV_3};
+use common::{gsa, gsv, letters, rmc, with_checksum, GSV_1, GSV_2, GSV_3};
 use proved_nmea::{
     read, Coordinate, Date, Decimal, Dops, Entry, Fix, Gsa, Gsv, Hemisphere, Letters, Mode,
     NavigationalStatus, Position, Refusal, Rmc, Selection, Sentence, Status, System, Time,
@@ -47,33 +47,59 @@ fn entry(satellite: u32, elevation: u32, azimuth: u32, signal: u32) -> Option<En
     })
 }
 
+// Records may gain fields, and so are made by reading one and setting every field that there is.
+
 /// An RMC record with a status and nothing else.
 fn bare_rmc(status: Status) -> Rmc {
-    Rmc {
-        time: None,
-        status,
-        position: None,
-        speed: None,
-        course: None,
-        date: None,
-        variation: None,
-        mode: None,
-        navigational_status: None,
-    }
+    let mut record = rmc(RMC);
+    record.time = None;
+    record.status = status;
+    record.position = None;
+    record.speed = None;
+    record.course = None;
+    record.date = None;
+    record.variation = None;
+    record.mode = None;
+    record.navigational_status = None;
+    record
+}
+
+fn gsa_of(
+    (selection, fix): (Selection, Fix),
+    system: Option<System>,
+    dops: Option<Dops>,
+    satellites: &[u32],
+) -> Gsa {
+    let mut record = gsa("$GPGSA,A,1,,,,*32");
+    record.talker = letters(b"GP");
+    record.selection = selection;
+    record.fix = fix;
+    record.system = system;
+    record.dops = dops;
+    record.satellites = satellites.to_vec();
+    record
+}
+
+fn gsv_of(
+    (talker, system): (&[u8; 2], System),
+    [sentences, number, in_view]: [u16; 3],
+    entries: [Option<Entry>; 4],
+) -> Gsv {
+    let mut record = gsv(GSV_1);
+    record.talker = letters(talker);
+    record.system = system;
+    record.sentences = sentences;
+    record.number = number;
+    record.in_view = in_view;
+    record.entries = entries;
+    record
 }
 
 // Worked sentences
 
 #[test]
 fn gsv_of_three_lines() {
-    let expected = |number, entries| Gsv {
-        talker: Letters(*b"GP"),
-        system: System::Gps,
-        sentences: 3,
-        number,
-        in_view: 11,
-        entries,
-    };
+    let expected = |number, entries| gsv_of((b"GP", System::Gps), [3, number, 11], entries);
     let first = [
         entry(3, 3, 111, 0),
         entry(4, 15, 270, 0),
@@ -100,14 +126,12 @@ fn gsv_of_three_lines() {
 
 #[test]
 fn gsa_with_four_satellites() {
-    let expected = Gsa {
-        talker: Letters(*b"GP"),
-        selection: Selection::Automatic,
-        fix: Fix::ThreeDimensions,
-        system: Some(System::Gps),
-        dops: dops(short(36, 1), short(21, 1), short(22, 1)),
-        satellites: vec![16, 18, 22, 24],
-    };
+    let expected = gsa_of(
+        (Selection::Automatic, Fix::ThreeDimensions),
+        Some(System::Gps),
+        dops(short(36, 1), short(21, 1), short(22, 1)),
+        &[16, 18, 22, 24],
+    );
     assert_eq!(
         gsa("$GPGSA,A,3,,,,,,16,18,,22,24,,,3.6,2.1,2.2*3C"),
         expected
@@ -116,40 +140,36 @@ fn gsa_with_four_satellites() {
 
 #[test]
 fn gsa_without_satellites() {
-    let expected = Gsa {
-        talker: Letters(*b"GP"),
-        selection: Selection::Automatic,
-        fix: Fix::None,
-        system: Some(System::Gps),
-        dops: None,
-        satellites: vec![],
-    };
+    let expected = gsa_of(
+        (Selection::Automatic, Fix::None),
+        Some(System::Gps),
+        None,
+        &[],
+    );
     assert_eq!(gsa("$GPGSA,A,1,,,,*32"), expected);
 }
 
 #[test]
 fn rmc_worked() {
-    let expected = Rmc {
-        time: Some(Time {
-            hour: 10,
-            minute: 15,
-            second: 0,
-            nanosecond: 250_000_000,
-        }),
-        position: Some(Position {
-            latitude: coordinate(3_090_500_000_000, 51, Hemisphere::North),
-            longitude: coordinate(-6_000_000_000, 0, Hemisphere::West),
-        }),
-        speed: Some(short(45, 1)),
-        course: Some(short(2700, 1)),
-        date: Some(Date {
-            year: 2024,
-            month: 2,
-            day: 29,
-        }),
-        mode: Some(Mode::Autonomous),
-        ..bare_rmc(Status::Autonomous)
-    };
+    let mut expected = bare_rmc(Status::Autonomous);
+    expected.time = Some(Time {
+        hour: 10,
+        minute: 15,
+        second: 0,
+        nanosecond: 250_000_000,
+    });
+    expected.position = Some(Position {
+        latitude: coordinate(3_090_500_000_000, 51, Hemisphere::North),
+        longitude: coordinate(-6_000_000_000, 0, Hemisphere::West),
+    });
+    expected.speed = Some(short(45, 1));
+    expected.course = Some(short(2700, 1));
+    expected.date = Some(Date {
+        year: 2024,
+        month: 2,
+        day: 29,
+    });
+    expected.mode = Some(Mode::Autonomous);
     assert_eq!(rmc(RMC), expected);
 }
 
@@ -164,11 +184,99 @@ fn records_as_text() {
     let position = record.position.unwrap();
     assert_eq!(position.latitude.hemisphere.letter(), 'N');
     assert_eq!(position.longitude.hemisphere.letter(), 'W');
+    assert_eq!(position.latitude.to_string(), "51 30.500000000 N");
+    assert_eq!(position.longitude.to_string(), "0 06.000000000 W");
     assert_eq!(gsv(GSV_1).talker.to_string(), "GP");
     assert_eq!(
         System::ALL.map(|system| system.to_string()).join(" "),
         "GPS GLONASS Galileo BeiDou NavIC QZSS"
     );
+}
+
+/// Names, and not the bytes that they have.
+#[test]
+fn records_for_debugging() {
+    let text = |body: &str| format!("{:?}", read(with_checksum(body).as_bytes()));
+    assert_eq!(text("GPGGA,"), "Ok(Other(GGA))");
+    assert_eq!(text("IDGSV,"), "Err(UnknownTalker(ID))");
+    assert_eq!(text(" \tGSV,"), "Err(UnknownTalker(\" \\t\"))");
+    let list = text("GPGSV,1,1,00,");
+    assert!(list.contains("talker: GP, system: Gps"), "{list}");
+}
+
+#[test]
+fn names_as_text() {
+    let talker = gsv(GSV_1).talker;
+    assert_eq!((talker.as_str(), talker.bytes()), ("GP", *b"GP"));
+    assert!(talker == "GP" && talker != "GL" && talker == *"GP");
+    assert_eq!(letters(b"\0\x7F").as_str(), "\0\x7F");
+    assert_eq!(Letters::new([b'G', 128]), None);
+    let types = [RMC, "$GPGSA,A,1,,,,*32", GSV_1, "$GPTXT,i*0A"].map(|line| {
+        read(line.as_bytes())
+            .expect("accepted")
+            .type_name()
+            .to_string()
+    });
+    assert_eq!(types, ["RMC", "GSA", "GSV", "TXT"]);
+}
+
+/// The whole number and the power of ten are exact, so that one division rounds once.
+#[test]
+fn decimals_as_floats() {
+    let speed = |text: &str| {
+        let speed = rmc(&with_checksum(&format!("GPRMC,,A,,,,,{text},,,,"))).speed;
+        speed.expect("a speed")
+    };
+    for text in [
+        "0", "0.1", "4.5", "0.000001", "9999999", "999999.9", "1.234567", "00.30",
+    ] {
+        let nearest: f64 = text.parse().expect("a float");
+        assert_eq!(speed(text).to_f64().to_bits(), nearest.to_bits(), "{text}");
+        assert_eq!(f64::from(speed(text)), nearest);
+        assert_eq!(f32::from(speed(text)), nearest as f32);
+    }
+    let line = with_checksum("GPRMC,,A,,,,,,,,0.0,W");
+    let variation = rmc(&line).variation.expect("a variation");
+    assert_eq!(variation.to_f64().to_bits(), (-0.0_f64).to_bits());
+    let line = with_checksum("GPRMC,,A,,,,,,,,1.5,W");
+    assert_eq!(rmc(&line).variation.expect("a variation").to_f64(), -1.5);
+}
+
+/// What `date -u -d '..' +%s` prints.
+#[test]
+fn timestamps() {
+    let since = |time: &str, date: &str| {
+        let line = with_checksum(&format!("GPRMC,{time},A,,,,,,,{date},,"));
+        rmc(&line)
+            .timestamp()
+            .map(|since| (since.as_secs(), since.subsec_nanos()))
+    };
+    assert_eq!(
+        since("101500.25", "290224"),
+        Some((1_709_201_700, 250_000_000))
+    );
+    assert_eq!(since("000000", "010183"), Some((410_227_200, 0)));
+    assert_eq!(
+        since("235959.999999999", "311282"),
+        Some((3_565_987_199, 999_999_999))
+    );
+    assert_eq!(since("000000", "010300"), Some((951_868_800, 0)));
+    assert_eq!(since("", "010100"), None);
+    assert_eq!(since("000000", ""), None);
+    let day = |year, month, day| Date { year, month, day }.days_since_1970();
+    assert_eq!(day(1970, 1, 1), 0);
+    assert_eq!(day(1969, 12, 31), -1);
+    // Each day is the one after the last.
+    let leap = |year: u16| year % 4 == 0 && (year % 100 != 0 || year % 400 == 0);
+    let mut next = day(1983, 1, 1);
+    for year in 1983..=2082 {
+        for (month, days) in (1..).zip([31, 28, 31, 30, 31, 30, 31, 31, 30, 31, 30, 31]) {
+            for date in 1..=days + u8::from(month == 2 && leap(year)) {
+                assert_eq!(day(year, month, date), next, "{year}-{month}-{date}");
+                next += 1;
+            }
+        }
+    }
 }
 
 // Easy errors
@@ -182,14 +290,7 @@ fn elevation_with_a_sign() {
 #[test]
 fn entry_without_its_last_comma() {
     let line = with_checksum("GLGSV,3,3,09,88,07,028");
-    let expected = Gsv {
-        talker: Letters(*b"GL"),
-        system: System::Glonass,
-        sentences: 3,
-        number: 3,
-        in_view: 9,
-        entries: [None; 4],
-    };
+    let expected = gsv_of((b"GL", System::Glonass), [3, 3, 9], [None; 4]);
     assert_eq!(gsv(&line), expected);
 
     // With its last comma the signal alone is missing.
@@ -207,14 +308,12 @@ fn whole_number_pdop_is_an_item() {
     assert_eq!(read(line.as_bytes()), Err(Refusal::Syntax));
 
     let line = with_checksum("GPGSA,M,2,16,18,3,2.1,2,1");
-    let expected = Gsa {
-        talker: Letters(*b"GP"),
-        selection: Selection::Manual,
-        fix: Fix::TwoDimensions,
-        system: Some(System::Gps),
-        dops: dops(short(21, 1), short(2, 0), short(1, 0)),
-        satellites: vec![16, 18, 3],
-    };
+    let expected = gsa_of(
+        (Selection::Manual, Fix::TwoDimensions),
+        Some(System::Gps),
+        dops(short(21, 1), short(2, 0), short(1, 0)),
+        &[16, 18, 3],
+    );
     assert_eq!(gsa(&line), expected);
 }
 
@@ -278,14 +377,8 @@ fn gsv_systems() {
 fn largest_numbers() {
     let line = with_checksum("GPGSV,65535,65535,65535,4294967295,2147483647,2147483647,2147483647");
     let most = 2_147_483_647;
-    let expected = Gsv {
-        talker: Letters(*b"GP"),
-        system: System::Gps,
-        sentences: 65_535,
-        number: 65_535,
-        in_view: 65_535,
-        entries: [entry(4_294_967_295, most, most, most), None, None, None],
-    };
+    let entries = [entry(4_294_967_295, most, most, most), None, None, None];
+    let expected = gsv_of((b"GP", System::Gps), [65_535; 3], entries);
     assert_eq!(gsv(&line), expected);
     let line = with_checksum("GNGSA,A,3,4294967295,9999999.,1,1");
     assert_eq!(read(line.as_bytes()), Err(Refusal::Number));
@@ -299,43 +392,39 @@ fn largest_numbers() {
     assert_eq!(record.dops.unwrap().pdop.to_string(), "0.000001");
 
     let line = with_checksum("GNRMC,235959.999999999,D,99999.999999999,S,255999.999999999,W,,,,,");
-    let expected = Rmc {
-        time: Some(Time {
-            hour: 23,
-            minute: 59,
-            second: 59,
-            nanosecond: 999_999_999,
-        }),
-        position: Some(Position {
-            latitude: coordinate(-6_939_999_999_999, 99, Hemisphere::South),
-            longitude: coordinate(-16_299_999_999_999, 255, Hemisphere::West),
-        }),
-        ..bare_rmc(Status::Differential)
-    };
+    let mut expected = bare_rmc(Status::Differential);
+    expected.time = Some(Time {
+        hour: 23,
+        minute: 59,
+        second: 59,
+        nanosecond: 999_999_999,
+    });
+    expected.position = Some(Position {
+        latitude: coordinate(-6_939_999_999_999, 99, Hemisphere::South),
+        longitude: coordinate(-16_299_999_999_999, 255, Hemisphere::West),
+    });
     assert_eq!(rmc(&line), expected);
 }
 
 #[test]
 fn two_byte_numbers_with_a_plus() {
     let line = with_checksum("GPRMC,+5+607,A,+12,N,+123,E,,,+1+2+3,,");
-    let expected = Rmc {
-        time: Some(Time {
-            hour: 5,
-            minute: 6,
-            second: 7,
-            nanosecond: 0,
-        }),
-        position: Some(Position {
-            latitude: coordinate(62_000_000_000, 1, Hemisphere::North),
-            longitude: coordinate(723_000_000_000, 12, Hemisphere::East),
-        }),
-        date: Some(Date {
-            year: 2003,
-            month: 2,
-            day: 1,
-        }),
-        ..bare_rmc(Status::Autonomous)
-    };
+    let mut expected = bare_rmc(Status::Autonomous);
+    expected.time = Some(Time {
+        hour: 5,
+        minute: 6,
+        second: 7,
+        nanosecond: 0,
+    });
+    expected.position = Some(Position {
+        latitude: coordinate(62_000_000_000, 1, Hemisphere::North),
+        longitude: coordinate(723_000_000_000, 12, Hemisphere::East),
+    });
+    expected.date = Some(Date {
+        year: 2003,
+        month: 2,
+        day: 1,
+    });
     assert_eq!(rmc(&line), expected);
 }
 
@@ -415,7 +504,7 @@ fn types_that_are_not_read_are_other() {
 #[test]
 fn checksum_bytes() {
     // `+A` reads as 10, `-` is no digit, and a digit is read in either case.
-    let text = Ok(Sentence::Other(Letters(*b"TXT")));
+    let text = Ok(Sentence::Other(letters(b"TXT")));
     assert_eq!(with_checksum("GPTXT,i"), "$GPTXT,i*0A");
     assert_eq!(read(b"$GPTXT,i*0A"), text);
     assert_eq!(read(b"$GPTXT,i*0a"), text);

@@ -1,9 +1,21 @@
 //! What several of the tests use.
 #![allow(dead_code)]
 
-use std::{env, fs, path::PathBuf};
+pub mod gatherer;
+pub mod json;
+pub mod logs;
 
-use proved_nmea::{read, Gsa, Gsv, Rmc, Sentence, Tally, Totals};
+use std::{
+    env, fs,
+    io::{BufReader, Read},
+    path::PathBuf,
+};
+
+use proved_nmea::{
+    read, walk, Answer, Gsa, Gsv, Kind, Letters, Reader, Rmc, Sentence, Tally, Totals,
+};
+
+use gatherer::{gathered, Handed};
 
 /// The three GSV lines of one group, the first and the third from 01's worked sentences.
 pub const GSV_1: &str = "$GPGSV,3,1,11,03,03,111,00,04,15,270,00,06,01,010,00,13,06,292,00*74";
@@ -36,13 +48,70 @@ pub fn lines_of(log: &[u8]) -> impl Iterator<Item = &[u8]> {
     log.split_inclusive(|&byte| byte == b'\n')
 }
 
-/// What a tally counts in a log.
-pub fn tally(log: &[u8]) -> Totals {
+/// A line without its line feed, and without one carriage return before that or at the end of the log.
+pub fn without_end(line: &[u8]) -> &[u8] {
+    let line = line.strip_suffix(b"\n").unwrap_or(line);
+    line.strip_suffix(b"\r").unwrap_or(line)
+}
+
+/// A name of these bytes.
+pub fn letters<const N: usize>(bytes: &[u8; N]) -> Letters<N> {
+    Letters::new(*bytes).expect("ASCII")
+}
+
+/// The totals and groups of a log, read through a buffer of so many bytes. Each line is held to what `read` says of it
+/// alone, the groups to the plain gatherer, the totals to a tally, and to the walk where that takes the log.
+pub fn held(log: &[u8], capacity: usize) -> (Totals, Vec<Handed>) {
+    let mut reader = Reader::new(BufReader::with_capacity(capacity, log));
+    let (totals, groups) = read_all(&mut reader, log);
+    assert_eq!(groups, gathered(log), "{}", log.escape_ascii());
     let mut tally = Tally::new();
     for line in lines_of(log) {
-        let _ = tally.add(line);
+        tally.add(line);
     }
-    tally.totals()
+    assert_eq!(totals, tally.totals(), "{}", log.escape_ascii());
+    if let Ok(walked) = walk(log) {
+        assert_eq!(totals, walked, "{}", log.escape_ascii());
+    }
+    (totals, groups)
+}
+
+fn read_all<R: Read>(reader: &mut Reader<BufReader<R>>, log: &[u8]) -> (Totals, Vec<Handed>) {
+    let mut groups = vec![];
+    for (number, expected) in (1..).zip(lines_of(log).map(without_end)) {
+        let line = reader
+            .next_line()
+            .expect("bytes in memory")
+            .expect("a line more");
+        assert_eq!(
+            (line.number(), line.bytes()),
+            (number, expected),
+            "{}",
+            log.escape_ascii()
+        );
+        let (answer, kind) = match read(expected) {
+            _ if expected.is_empty() => (Answer::Blank, Kind::Blank),
+            Err(refusal) => (Answer::Refused(refusal), Kind::Refused),
+            Ok(sentence) => {
+                let kind = match sentence {
+                    Sentence::Rmc(_) => Kind::Rmc,
+                    Sentence::Gsa(_) => Kind::Gsa,
+                    Sentence::Gsv(_) => Kind::Gsv,
+                    _ => Kind::Other,
+                };
+                (Answer::Sentence(sentence), kind)
+            }
+        };
+        assert_eq!((line.answer(), line.kind()), (answer, kind));
+        assert_eq!(
+            line.refusal(),
+            read(expected).err().filter(|_| !expected.is_empty())
+        );
+        assert_eq!(line.group().is_some(), line.has_group());
+        groups.extend(line.group().map(Handed::from));
+    }
+    assert!(reader.next_line().expect("bytes in memory").is_none());
+    (reader.totals(), groups)
 }
 
 pub fn rmc(line: &str) -> Rmc {

@@ -2,8 +2,10 @@
 
 mod common;
 
-use common::{worked_log, GSV_1};
-use proved_nmea::abi::{answer, walk, TOTALS, WORDS};
+use common::{with_checksum, worked_log, GSV_1, GSV_2, GSV_3};
+use proved_nmea::abi::{
+    answer, fresh, gather, row, walk, COMPLETES, ROW, ROW_WORDS, TABLE, TOTALS, WAITS, WORDS,
+};
 
 #[test]
 fn words_after_the_answer_stay() {
@@ -33,4 +35,98 @@ fn totals() {
     let mut totals = [7; TOTALS];
     assert_eq!(walk(&[b'x'; 65_537], &mut totals), 12);
     assert_eq!(totals, [7; TOTALS]);
+}
+
+#[test]
+fn the_lengths_that_the_library_has() {
+    assert_eq!((WORDS, TABLE, ROW, ROW_WORDS), (40, 888, 148, 293));
+}
+
+#[test]
+fn a_fresh_table() {
+    let mut table = [7; TABLE];
+    assert_eq!(fresh(&mut table), 1);
+    assert_eq!(table, [0; TABLE]);
+    for length in [0, TABLE - 1, TABLE + 1] {
+        let mut other = vec![7; length];
+        assert_eq!(fresh(&mut other), 0);
+        assert_eq!(other, vec![7; length]);
+    }
+}
+
+/// The words that a line's own row gets, and those that are left.
+#[test]
+fn lines_of_a_group() {
+    let mut table = [7; TABLE];
+    fresh(&mut table);
+    let mut words = [7; WORDS + 1];
+    assert_eq!(gather(GSV_1.as_bytes(), &mut words, &mut table), WAITS);
+    assert_eq!(table[..8], [3, 2, 11, 4, 3, 3, 111, 0]);
+    assert_eq!(table[ROW..], [0; TABLE - ROW]);
+    assert_eq!(words[WORDS], 7);
+    let mut alone = [0; WORDS];
+    answer(GSV_1.as_bytes(), &mut alone);
+    assert_eq!(words[..WORDS], alone);
+
+    let before = table;
+    assert_eq!(gather(b"$GPGSA,A,1,,,,*33", &mut words, &mut table), 1);
+    assert_eq!((words[0], words[1]), (5, 6));
+    assert_eq!(gather(b"$GPGSA,A,1,,,,*32", &mut words, &mut table), 1);
+    assert_eq!(table, before);
+
+    assert_eq!(gather(GSV_2.as_bytes(), &mut words, &mut table), WAITS);
+    assert_eq!(gather(GSV_3.as_bytes(), &mut words, &mut table), COMPLETES);
+    assert_eq!(table[..4], [3, 0, 11, 11]);
+    assert_eq!(gather(GSV_3.as_bytes(), &mut words, &mut table), 2);
+    let qzss = with_checksum("QZGSV,1,1,00,");
+    assert_eq!(
+        gather(qzss.as_bytes(), &mut words, &mut table),
+        COMPLETES + 5
+    );
+}
+
+#[test]
+fn a_row_that_is_read() {
+    let mut table = [0; TABLE];
+    let mut words = [0; WORDS];
+    let line = with_checksum("GLGSV,1,1,02,65,,,,66,1,,40");
+    assert_eq!(
+        gather(line.as_bytes(), &mut words, &mut table),
+        COMPLETES + 1
+    );
+    let mut read = [7; ROW_WORDS + 1];
+    assert_eq!(row(&table, 1, &mut read), 1);
+    assert_eq!(read[..5], [2, 1, 0, 2, 2]);
+    assert_eq!(read[5..13], [1, 65, 0, 0, 0, 0, 0, 0]);
+    assert_eq!(read[13..21], [1, 66, 1, 1, 0, 0, 1, 40]);
+    assert_eq!(read[21..ROW_WORDS], [0; ROW_WORDS - 21]);
+    assert_eq!(read[ROW_WORDS], 7);
+}
+
+#[test]
+fn what_is_too_short_is_left_alone() {
+    let line = GSV_1.as_bytes();
+    for (count, length) in [
+        (WORDS - 1, TABLE),
+        (WORDS, TABLE - 1),
+        (WORDS, TABLE + 1),
+        (0, 0),
+    ] {
+        let (mut words, mut table) = (vec![7; count], vec![7; length]);
+        assert_eq!(gather(line, &mut words, &mut table), 0);
+        assert_eq!((words, table), (vec![7; count], vec![7; length]));
+    }
+    let mut over = [0; TABLE];
+    over[3] = 37;
+    for (table, at, count) in [
+        (&[0; TABLE][..], 0, ROW_WORDS - 1),
+        (&[0; TABLE - 1], 0, ROW_WORDS),
+        (&[0; TABLE], 6, ROW_WORDS),
+        (&[0; TABLE], usize::MAX, ROW_WORDS),
+        (&over, 0, ROW_WORDS),
+    ] {
+        let mut words = vec![7; count];
+        assert_eq!(row(table, at, &mut words), 0);
+        assert_eq!(words, vec![7; count]);
+    }
 }

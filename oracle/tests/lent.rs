@@ -134,6 +134,13 @@ fn random_tables() {
     assert!(report.by_a_byte.iter().all(|&count| count > TABLES / 100));
 }
 
+#[test]
+fn a_seed_gives_the_same_tables() {
+    let met = |seed| compare_tables(linked_gather, 1_000, seed);
+    assert_eq!(met(1), met(1));
+    assert_ne!(met(1), met(2));
+}
+
 /// The comparison itself: gatherers that are wrong in one word are found.
 #[test]
 fn a_wrong_gatherer_is_found() {

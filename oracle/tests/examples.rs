@@ -21,10 +21,17 @@ use oracle::{
 
 type Checked = Result<(), Box<dyn Error>>;
 
-/// The folder of the library: what it is linked from here too.
+/// The library that the program is linked with.
 fn library() -> PathBuf {
     let built = || Path::new(env!("CARGO_MANIFEST_DIR")).join("../target/staticlib");
-    env::var_os("NMEA_LIB").map_or_else(built, PathBuf::from)
+    let folder = env::var_os("NMEA_LIB").map_or_else(built, PathBuf::from);
+    let library = folder.join("libcapi.a");
+    assert!(
+        library.is_file(),
+        "{} is not there: `rt staticlib capi` makes target/staticlib/libcapi.a",
+        library.display()
+    );
+    library
 }
 
 /// The program, compiled once.
@@ -40,7 +47,7 @@ fn program() -> &'static Path {
             .arg("-o")
             .arg(&program)
             .arg(repository.join("examples/groups.c"))
-            .arg(library().join("libcapi.a"))
+            .arg(library())
             .output()
             .expect("needs `cc`, a C compiler, which cargo links with too");
         let said = String::from_utf8_lossy(&output.stderr);

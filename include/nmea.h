@@ -40,14 +40,15 @@ uint32_t nmea_answer(const uint8_t *line, size_t length, uint64_t *words, size_t
  * a shorter buffer 255, and nothing is written. */
 uint32_t nmea_walk(const uint8_t *log, size_t length, uint64_t *totals, size_t count);
 
-/* The words of a table, which gathers a log's groups of satellites: it has rows, one for each system, and these words and cells, one for
- * each satellite. */
+/* The words of a table, which gathers a log's groups of satellites. */
 #define NMEA_TABLE 888
+
+/* Its rows, one for each system; the words of a row; a row's cells, one for each satellite. */
 #define NMEA_ROWS 6
 #define NMEA_ROW 148
 #define NMEA_CELLS 36
 
-/* In a cell: no elevation, azimuth or signal. */
+/* In a cell, where there is no elevation, azimuth or signal. */
 #define NMEA_ABSENT 4294967295u
 
 /* Makes a table of 888 words fresh, for the first line of a log: sets each word to 0 and answers 1. With another count it writes nothing
@@ -64,7 +65,7 @@ uint32_t nmea_fresh(uint32_t *table, size_t table_words);
 /* Takes the next line of a log, without its line end: writes the answer as nmea_answer does, and has the table follow the line.
  * NMEA_NOT_TAKEN: the buffer has fewer than 40 words, or the table not 888; neither is written.
  * NMEA_NO_GSV: the line is no accepted GSV line; the table is as it was.
- * NMEA_NO_RUN: an accepted GSV line that broke its system's run, or started none; its row waits for none.
+ * NMEA_NO_RUN: an accepted GSV line behind which no run stands: it broke its system's, or started none.
  * NMEA_WAITS: an accepted GSV line; its run waits for the next.
  * NMEA_GROUP and the number of a row above it: an accepted GSV line that completed the run of that row. The row has the group, until
  * its system's next accepted GSV line.

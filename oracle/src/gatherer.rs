@@ -40,16 +40,10 @@ fn run_of<'a>(answers: &'a [Option<Answer>], last: &Gsv) -> Vec<&'a Gsv> {
     run
 }
 
-/// The group that the run is, if it is one: 1 to 9 sentences, numbered from 1
-/// to their count, with equal counts of sentences and of satellites in view.
+/// The group that the run is, if it is one.
 fn group_of(run: &[&Gsv], last: &Gsv) -> Option<Group> {
-    let counts = |record: &Gsv| (record.sentences, record.in_view);
-    let is_group = (1..=9).contains(&last.sentences)
-        && run
-            .iter()
-            .map(|record| record.number)
-            .eq(1..=last.sentences)
-        && run.iter().all(|record| counts(record) == counts(last));
+    let places: Vec<Place> = run.iter().map(|&record| Place::of(record)).collect();
+    let is_group = is_run(&places) && last.number == last.sentences;
     is_group.then(|| Group {
         system: last.system,
         sentences: last.sentences,
@@ -59,4 +53,36 @@ fn group_of(run: &[&Gsv], last: &Gsv) -> Option<Group> {
             .flat_map(|record| record.entries.into_iter().flatten())
             .collect(),
     })
+}
+
+/// Where a line says that it stands.
+#[derive(Clone, Copy, Debug, PartialEq, Eq)]
+pub(crate) struct Place {
+    pub(crate) sentences: u16,
+    pub(crate) number: u16,
+    pub(crate) in_view: u16,
+}
+
+impl Place {
+    pub(crate) fn of(record: &Gsv) -> Self {
+        Place {
+            sentences: record.sentences,
+            number: record.number,
+            in_view: record.in_view,
+        }
+    }
+}
+
+/// Whether lines of one system that follow one another are a group's first, or
+/// all of them: of 1 to 9 sentences, numbered from 1 on, with equal counts of
+/// sentences and of satellites in view.
+pub(crate) fn is_run(lines: &[Place]) -> bool {
+    let Some(last) = lines.last() else {
+        return false;
+    };
+    let counts = |line: &Place| (line.sentences, line.in_view);
+    (1..=9).contains(&last.sentences)
+        && last.number <= last.sentences
+        && lines.iter().map(|line| line.number).eq(1..=last.number)
+        && lines.iter().all(|line| counts(line) == counts(last))
 }

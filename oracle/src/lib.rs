@@ -16,6 +16,7 @@ mod gsa;
 mod gsv;
 mod judge;
 mod known;
+mod lent;
 pub mod lines;
 mod log;
 mod ours;
@@ -28,6 +29,9 @@ mod replay;
 mod report;
 mod rmc;
 mod shrink;
+mod table;
+#[cfg(target_arch = "x86_64")]
+mod tables;
 mod totals;
 mod words;
 
@@ -42,9 +46,10 @@ pub use gsa::Gsa;
 pub use gsv::{Entry, Gsv};
 pub use judge::{judge, Domain};
 pub use known::KNOWN_TYPES;
+pub use lent::{lines_that_leave, plain_gather, Lent, Why};
 pub use log::{pieces, stretches, Log, Totals, LONGEST_LOG};
 #[cfg(target_arch = "x86_64")]
-pub use ours::linked;
+pub use ours::{linked, linked_fresh, linked_gather, linked_row};
 pub use ours::{Ours, Piped, LONGEST_FRAME};
 pub use owed::owed;
 pub use plain::{is_plain, Limits};
@@ -53,6 +58,10 @@ pub use refusal::Refusal;
 pub use replay::Replay;
 pub use report::{Difference, PartReport, Report, Tally};
 pub use rmc::{Date, Rmc, Time};
+pub use table::{row_of, row_read, Cell, Gathered, Row, Table};
+pub use table::{ABSENT, CELLS, ROW, ROWS, ROW_WORDS, TABLE};
+#[cfg(target_arch = "x86_64")]
+pub use tables::{compare_tables, Did, Gather, TablesReport};
 #[cfg(target_arch = "x86_64")]
 pub use totals::linked_totals;
 pub use totals::{totals_of, totals_of_file, Printed};

@@ -13,6 +13,7 @@ mod part;
 mod random;
 mod rmc;
 mod sentence;
+mod table;
 mod texts;
 mod worked;
 
@@ -22,4 +23,5 @@ pub use exhaustive::{exhaustive_parts, SHORT_DECIMALS};
 pub use generator::Generator;
 pub use log::generated_log;
 pub use part::Part;
+pub use table::TableGenerator;
 pub use worked::{comment_lines, worked_lines};

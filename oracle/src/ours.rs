@@ -65,6 +65,29 @@ pub fn linked(line: &[u8]) -> Words {
     *words
 }
 
+/// Has the linked reader make a table fresh. What it answers.
+#[cfg(target_arch = "x86_64")]
+pub fn linked_fresh(table: &mut [u32]) -> u32 {
+    proved_nmea::abi::fresh(table)
+}
+
+/// Has the linked reader take a line, with these words to write and this
+/// table. What it answers. The line stands on the heap alone.
+#[cfg(target_arch = "x86_64")]
+pub fn linked_gather(line: &[u8], words: &mut [u64], table: &mut [u32]) -> u32 {
+    let lent: Box<[u8]> = line.into();
+    let answer = proved_nmea::abi::gather(&lent, words, table);
+    assert_eq!(*lent, *line, "the line was written");
+    answer
+}
+
+/// Has the linked reader read a row of a table into these words. What it
+/// answers.
+#[cfg(target_arch = "x86_64")]
+pub fn linked_row(table: &[u32], row: usize, words: &mut [u64]) -> u32 {
+    proved_nmea::abi::row(table, row, words)
+}
+
 impl Piped {
     /// Each batch is a run of its own to the end of its input, so that nothing
     /// hangs on how the program buffers.

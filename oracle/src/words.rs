@@ -6,7 +6,7 @@ mod writer;
 use crate::{
     Answer, Coordinate, Date, Decimal, Entry, Exact, Gsa, Gsv, Refusal, Rmc, Time, WholeEntry,
 };
-use reader::Reader;
+pub(crate) use reader::Reader;
 pub use writer::words_of;
 
 pub const WORDS: usize = 40;

@@ -7,17 +7,37 @@ int main(void)
     uint32_t (*refusal)(const uint8_t *, size_t) = nmea_refusal;
     uint32_t (*answer)(const uint8_t *, size_t, uint64_t *, size_t) = nmea_answer;
     uint32_t (*walk)(const uint8_t *, size_t, uint64_t *, size_t) = nmea_walk;
+    uint32_t (*fresh)(uint32_t *, size_t) = nmea_fresh;
+    uint32_t (*gather)(const uint8_t *, size_t, uint64_t *, size_t, uint32_t *, size_t) = nmea_gather;
+    uint32_t (*row)(const uint32_t *, size_t, size_t, uint64_t *, size_t) = nmea_row;
 
     const uint8_t line[] = { '$', 'G', 'P', 'T', 'X', 'T' };
     uint64_t words[NMEA_WORDS];
     uint64_t totals[NMEA_TOTALS];
+    uint32_t table[NMEA_TABLE];
+    uint64_t row_words[NMEA_ROW_WORDS];
     uint32_t got = nmea_refusal(line, sizeof line);
     got += nmea_answer(line, sizeof line, words, NMEA_WORDS);
     got += nmea_walk(line, sizeof line, totals, NMEA_TOTALS);
+    got += nmea_fresh(table, NMEA_TABLE);
+    got += nmea_row(table, NMEA_TABLE, NMEA_ROWS - 1, row_words, NMEA_ROW_WORDS);
     got += refusal(line, sizeof line);
     got += answer(line, sizeof line, words, NMEA_WORDS);
     got += walk(line, sizeof line, totals, NMEA_TOTALS);
+    got += fresh(table, NMEA_TABLE);
+    got += gather(line, sizeof line, words, NMEA_WORDS, table, NMEA_TABLE);
+    got += row(table, NMEA_TABLE, 0, row_words, NMEA_ROW_WORDS);
+    got += table[NMEA_ROW - NMEA_CELLS] == NMEA_ABSENT;
 
+    switch (nmea_gather(line, sizeof line, words, NMEA_WORDS, table, NMEA_TABLE)) {
+    case NMEA_NOT_TAKEN:
+    case NMEA_NO_GSV:
+    case NMEA_NO_RUN:
+    case NMEA_WAITS:
+        break;
+    case NMEA_GROUP:
+        got++;
+    }
     switch (words[0]) {
     case NMEA_RMC:
     case NMEA_GSA:

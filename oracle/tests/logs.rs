@@ -126,7 +126,11 @@ fn groups_by_hand() {
 
 #[cfg(target_arch = "x86_64")]
 mod linked {
-    use oracle::{answer_of, expected, linked, linked_totals, stretches, Answer, Group, Log};
+    use oracle::{
+        answer_of, expected, linked, linked_fresh, linked_gather, linked_row, linked_totals,
+        row_read, stretches, Answer, Cell, Entry, Gathered, Group, Log, WholeEntry, ROW_WORDS,
+        TABLE,
+    };
 
     use super::*;
 
@@ -156,6 +160,7 @@ mod linked {
         }
         let groups = plain.groups();
         assert_eq!(our_groups(log, &counts), groups, "{name}");
+        assert_eq!(gathered(&plain.lines), groups, "{name}");
         groups.len()
     }
 
@@ -194,6 +199,45 @@ mod linked {
                 (line, group)
             })
             .collect()
+    }
+
+    /// The groups that our side gathers over a table, line by line.
+    fn gathered(lines: &[&[u8]]) -> Vec<(usize, Group)> {
+        let mut table = vec![7; TABLE];
+        assert_eq!(linked_fresh(&mut table), 1);
+        let mut words = [0; 40];
+        let mut groups = vec![];
+        for (index, line) in lines.iter().enumerate() {
+            let did = linked_gather(line, &mut words, &mut table);
+            let Some(Gathered::Group(system)) = Gathered::of(did) else {
+                continue;
+            };
+            let mut words = [0; ROW_WORDS];
+            assert_eq!(linked_row(&table, system as usize, &mut words), 1);
+            let (read, row) = row_read(&words).expect("the words of a row");
+            assert_eq!((read, row.waits_for), (system, 0));
+            let number = |word: u32| u16::try_from(word).expect("a number of a line");
+            let group = Group {
+                system,
+                sentences: number(row.sentences),
+                in_view: number(row.in_view),
+                entries: row.cells.iter().map(entry).collect(),
+            };
+            groups.push((index, group));
+        }
+        groups
+    }
+
+    fn entry(cell: &Cell) -> Entry {
+        let [elevation, azimuth, signal] = cell
+            .places()
+            .map(|place| place.map(|number| number.try_into().expect("a number of a line")));
+        Entry::from(WholeEntry {
+            satellite: cell.satellite,
+            elevation,
+            azimuth,
+            signal,
+        })
     }
 
     #[test]

@@ -1,4 +1,4 @@
-//! The program `compare`: what it takes, prints and ends with.
+//! The programs `compare`, `lent` and `plain`: what they take, print and end with.
 
 use std::{
     io,
@@ -75,5 +75,44 @@ fn a_program_that_does_not_answer() -> io::Result<()> {
         assert_eq!(output.status.code(), Some(2), "{program}");
         assert!(text(&output.stderr).starts_with("compare: "), "{program}");
     }
+    Ok(())
+}
+
+#[cfg(target_arch = "x86_64")]
+#[test]
+fn tables() -> io::Result<()> {
+    let lent = |words: &[&str]| {
+        Command::new(env!("CARGO_BIN_EXE_lent"))
+            .args(words)
+            .output()
+    };
+    let output = lent(&["--tables", "5000", "--seed", "3"])?;
+    let printed = text(&output.stdout);
+    assert_eq!(output.status.code(), Some(0), "{printed}");
+    let last = printed.lines().last().unwrap_or_default();
+    assert!(
+        last.starts_with("compared 5000 tables, ") && last.ends_with(" 0 differ"),
+        "{last}"
+    );
+    // One table does not meet every kind of row.
+    let output = lent(&["--tables", "1"])?;
+    assert_eq!(output.status.code(), Some(2));
+    assert!(text(&output.stderr).starts_with("lent: not met: "));
+    for words in [&["--tables"][..], &["--tables", "many"], &["5"]] {
+        let output = lent(words)?;
+        assert_eq!(output.status.code(), Some(2), "{words:?}");
+        assert!(text(&output.stderr).contains("usage: "), "{words:?}");
+    }
+    Ok(())
+}
+
+#[test]
+fn a_log_read_with_the_crate_alone() -> io::Result<()> {
+    let log = concat!(env!("CARGO_MANIFEST_DIR"), "/../crates/nmea_log/stdin");
+    let output = Command::new(env!("CARGO_BIN_EXE_plain"))
+        .arg(log)
+        .output()?;
+    let printed = text(&output.stdout);
+    assert_eq!(printed, "lines 5 blank 1 accepted 3 refused 1\n");
     Ok(())
 }

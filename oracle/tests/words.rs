@@ -4,7 +4,8 @@
 use oracle::{
     answer_of, crate_answer, expected, judge,
     lines::{exhaustive_parts, worked_lines, Batch, Generator},
-    with_checksum, words_of, Answer, Domain, Exact, OursAnswer, Refusal, System, Words,
+    row_read, with_checksum, words_of, Answer, Cell, Domain, Exact, Gathered, OursAnswer, Refusal,
+    Row, System, Words, ABSENT, CELLS, ROW, ROWS, ROW_WORDS, TABLE,
 };
 
 const RMC: &str = "$GNRMC,101500.25,A,5130.5,N,00006.0,W,4.5,270.0,290224,,,A*5F";
@@ -218,4 +219,84 @@ fn refusals_that_are_written_are_read() {
         assert_eq!(words[..2], [5, number]);
         assert_eq!(answer_of(&words), Ok(answer));
     }
+}
+
+/// A row of BeiDou with two satellites, of which the second has its number alone.
+fn row_words() -> Vec<u64> {
+    let head: [&[u64]; 3] = [
+        &[4, 3, 2, 11, 2],
+        &[1, 22, 1, 42, 1, 67, 1, 0],
+        &[1, 4_294_967_295, 0, 0, 0, 0, 0, 0],
+    ];
+    let mut words = head.concat();
+    words.resize(ROW_WORDS, 0);
+    words
+}
+
+#[test]
+fn a_row() {
+    let cell = |satellite, places: [Option<u32>; 3]| Cell {
+        satellite,
+        elevation: places[0],
+        azimuth: places[1],
+        signal: places[2],
+    };
+    let row = Row {
+        sentences: 3,
+        waits_for: 2,
+        in_view: 11,
+        cells: vec![
+            cell(22, [Some(42), Some(67), Some(0)]),
+            cell(u32::MAX, [None; 3]),
+        ],
+    };
+    assert_eq!(row_read(&row_words()), Ok((System::Beidou, row.clone())));
+
+    // The same row in a table, and back.
+    let mut words = [9; ROW];
+    row.put(&mut words);
+    assert_eq!(words[..4], [3, 2, 11, 2]);
+    assert_eq!(words[4..8], [22, 42, 67, 0]);
+    assert_eq!(words[8..13], [u32::MAX, ABSENT, ABSENT, ABSENT, 9]);
+    assert_eq!(Row::of(&words), Some(row));
+    words[3] = 37;
+    assert_eq!(Row::of(&words), None);
+}
+
+/// No word of a row can be changed without being found.
+#[test]
+fn only_its_words_are_a_row() {
+    let right = row_words();
+    let row = row_read(&right);
+    for index in 0..ROW_WORDS {
+        for other in [0, 1, 2, 36, 37, 1 << 31, 0xFFFF_FFFF, 1 << 32, u64::MAX] {
+            let mut wrong = right.clone();
+            wrong[index] = other;
+            assert_eq!(
+                row_read(&wrong) == row,
+                other == right[index],
+                "word {index} as {other}"
+            );
+        }
+    }
+}
+
+#[test]
+fn sizes_of_tables() {
+    assert_eq!((ROWS, ROW, TABLE), (6, 148, 888));
+    assert_eq!((CELLS, ROW_WORDS, ABSENT), (36, 293, 4_294_967_295));
+}
+
+#[test]
+fn what_a_line_did() {
+    let did: Vec<Option<Gathered>> = (0..11).map(Gathered::of).collect();
+    let mut expected = vec![
+        None,
+        Some(Gathered::NoGsv),
+        Some(Gathered::NoRun),
+        Some(Gathered::Waits),
+    ];
+    expected.extend(System::ALL.map(|system| Some(Gathered::Group(system))));
+    expected.push(None);
+    assert_eq!(did, expected);
 }

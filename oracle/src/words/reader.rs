@@ -1,36 +1,35 @@
-use super::{Words, WORDS};
 use crate::System;
 
-/// Takes the words of an answer one after another.
-pub(super) struct Reader<'a> {
-    words: &'a Words,
+/// Takes the words of an answer, or of a row, one after another.
+pub(crate) struct Reader<'a> {
+    words: &'a [u64],
     /// The next word.
     at: usize,
 }
 
 impl<'a> Reader<'a> {
-    pub(super) fn new(words: &'a Words) -> Self {
+    pub(crate) fn new(words: &'a [u64]) -> Self {
         Reader { words, at: 0 }
     }
 
-    pub(super) fn word(&mut self) -> u64 {
+    pub(crate) fn word(&mut self) -> u64 {
         let word = self.words[self.at];
         self.at += 1;
         word
     }
 
     /// The error that the word taken last is not one that stands there.
-    pub(super) fn unfit(&self, why: &str) -> String {
+    pub(crate) fn unfit(&self, why: &str) -> String {
         let at = self.at - 1;
         format!("word {at} is {}: {why}", self.words[at])
     }
 
     /// A word within the range of its type.
-    pub(super) fn fits<T: TryFrom<u64>>(&mut self) -> Result<T, String> {
+    pub(crate) fn fits<T: TryFrom<u64>>(&mut self) -> Result<T, String> {
         T::try_from(self.word()).map_err(|_| self.unfit("out of its range"))
     }
 
-    pub(super) fn flag(&mut self) -> Result<bool, String> {
+    pub(crate) fn flag(&mut self) -> Result<bool, String> {
         match self.word() {
             0 => Ok(false),
             1 => Ok(true),
@@ -38,7 +37,7 @@ impl<'a> Reader<'a> {
         }
     }
 
-    pub(super) fn letter(&mut self) -> Result<char, String> {
+    pub(crate) fn letter(&mut self) -> Result<char, String> {
         match self.optional_letter()? {
             Some(letter) => Ok(letter),
             None => Err(self.unfit("no letter")),
@@ -46,7 +45,7 @@ impl<'a> Reader<'a> {
     }
 
     /// A letter, or 0 if it is absent.
-    pub(super) fn optional_letter(&mut self) -> Result<Option<char>, String> {
+    pub(crate) fn optional_letter(&mut self) -> Result<Option<char>, String> {
         match self.fits()? {
             0 => Ok(None),
             byte @ 1..=127u8 => Ok(Some(char::from(byte))),
@@ -55,7 +54,7 @@ impl<'a> Reader<'a> {
     }
 
     /// One of the first `count` systems.
-    pub(super) fn system(&mut self, count: usize) -> Result<System, String> {
+    pub(crate) fn system(&mut self, count: usize) -> Result<System, String> {
         match self.optional_system(count)? {
             Some(system) => Ok(system),
             None => Err(self.unfit("no system")),
@@ -63,7 +62,7 @@ impl<'a> Reader<'a> {
     }
 
     /// One of the first `count` systems, or 0 if it is absent.
-    pub(super) fn optional_system(&mut self, count: usize) -> Result<Option<System>, String> {
+    pub(crate) fn optional_system(&mut self, count: usize) -> Result<Option<System>, String> {
         let number: usize = self.fits()?;
         if number > count {
             return Err(self.unfit("no system"));
@@ -73,7 +72,7 @@ impl<'a> Reader<'a> {
 
     /// A part that has a 1 before it if it is there. It has `count` words,
     /// which are 0 if it is absent.
-    pub(super) fn optional<T>(
+    pub(crate) fn optional<T>(
         &mut self,
         count: usize,
         read: impl FnOnce(&mut Self) -> Result<T, String>,
@@ -86,8 +85,8 @@ impl<'a> Reader<'a> {
     }
 
     /// The words that are left are 0.
-    pub(super) fn end(mut self) -> Result<(), String> {
-        self.zeros(WORDS - self.at)
+    pub(crate) fn end(mut self) -> Result<(), String> {
+        self.zeros(self.words.len() - self.at)
     }
 
     fn zeros(&mut self, count: usize) -> Result<(), String> {

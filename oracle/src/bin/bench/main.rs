@@ -1,5 +1,6 @@
 //! Measures our reader beside the crate nmea 0.8.0, on the lines of the
 //! corpus, both in this process and both built for release: `bench [--rounds N]`.
+//! Last, two programs over a log of 30 MB, each from its start to its end.
 //!
 //! Of each class it says the nanoseconds a line, medians of several rounds in
 //! which the two sides take turns, and the crate's time over ours. Its last
@@ -16,6 +17,8 @@ fn main() {
 mod gatherer;
 #[cfg(target_arch = "x86_64")]
 mod measure;
+#[cfg(target_arch = "x86_64")]
+mod programs;
 
 #[cfg(target_arch = "x86_64")]
 fn main() -> std::process::ExitCode {

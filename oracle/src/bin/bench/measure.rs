@@ -4,7 +4,7 @@ use nmea::{parse_bytes, ParseResult};
 use oracle::lines::{corpus, corpus_lines};
 use proved_nmea::abi;
 
-use crate::gatherer::Gatherer;
+use crate::{gatherer::Gatherer, programs::Programs};
 
 /// The longest log that our walk takes.
 const LONGEST_LOG: usize = 65_536;
@@ -27,7 +27,7 @@ pub fn run() -> Result<(), Box<dyn Error>> {
     };
 
     println!("nanoseconds a line; the floor is one pass that finds the line feeds and XORs");
-    println!("class    lines  bytes  ours  whole answer  crate  ratio  floor  ours over floor");
+    println!("class        lines  bytes  ours  whole answer  crate  ratio  floor  ours over floor");
     let mut ratios = vec![];
     let mut whole_ratios = vec![];
     for class in ["rmc", "gsa", "gsv", "other", "refused"] {
@@ -52,34 +52,68 @@ pub fn run() -> Result<(), Box<dyn Error>> {
                 &mut || lines.iter().for_each(|line| seen(floor(line))),
             ],
         );
-        ratios.push(told(class, lines.len(), bytes, times));
-        whole_ratios.push(format!("{class}={:.2}", times[2] / times[1]));
+        let [ours, whole, theirs, floor] = times;
+        let times = [Some(whole), Some(floor)];
+        ratios.push(told(class, lines.len(), bytes, ours, theirs, times));
+        whole_ratios.push(format!("{class}={:.2}", theirs / whole));
     }
 
     let logs = logs()?;
     let count: usize = logs.iter().map(|log| lines_of(log).count()).sum();
     let bytes: usize = logs.iter().map(|log| log.len()).sum();
-    let times = medians(
+    let [ours, theirs, least] = medians(
         rounds,
         count,
         [
             &mut || logs.iter().for_each(|log| seen(walk(log))),
-            &mut || {},
             &mut || logs.iter().for_each(|log| seen(crate_walk(log))),
             &mut || logs.iter().for_each(|log| seen(floor(log))),
         ],
     );
-    ratios.push(told("walk", count, bytes, times));
+    ratios.push(told(
+        "walk",
+        count,
+        bytes,
+        ours,
+        theirs,
+        [None, Some(least)],
+    ));
+
+    let all: Vec<&[u8]> = lines.iter().map(Vec::as_slice).collect();
+    for (class, lines) in [("gather-gsv", of("gsv")), ("gather-all", all)] {
+        let groups = [gather(&lines), crate_gather(&lines).groups.len()];
+        if groups[0] != groups[1] {
+            return Err(format!("{class}: {} groups, the crate's {}", groups[0], groups[1]).into());
+        }
+        let bytes: usize = lines.iter().map(|line| line.len()).sum();
+        let [ours, theirs, least] = medians(
+            rounds,
+            lines.len(),
+            [
+                &mut || seen(gather(&lines)),
+                &mut || seen(crate_gather(&lines)),
+                &mut || lines.iter().for_each(|line| seen(floor(line))),
+            ],
+        );
+        let times = [None, Some(least)];
+        ratios.push(told(class, lines.len(), bytes, ours, theirs, times));
+    }
+
+    let programs = Programs::over(&logs)?;
+    let Programs { lines, bytes, .. } = programs;
+    let [ours, theirs] = medians(
+        rounds,
+        lines,
+        [&mut || programs.transfer(), &mut || programs.plain()],
+    );
+    let times = [None, None];
+    ratios.push(told("transfer", lines, bytes, ours, theirs, times));
 
     println!("\nthe same lines  ours ns a byte");
     let stretch = stretch(&logs);
     for times in [1, 8, 64] {
         let log = stretch.repeat(times);
-        let [ours, ..] = medians(
-            rounds,
-            lines_of(&log).count(),
-            [&mut || seen(walk(&log)), &mut || {}, &mut || {}, &mut || {}],
-        );
+        let [ours] = medians(rounds, lines_of(&log).count(), [&mut || seen(walk(&log))]);
         let lines = lines_of(&log).count() as f64;
         println!(
             "{:>8} bytes  {:>14.2}",
@@ -107,18 +141,24 @@ fn rounds() -> Result<usize, String> {
     }
 }
 
-/// Prints a class's times and answers its ratio.
-fn told(class: &str, lines: usize, bytes: usize, [ours, whole, theirs, floor]: [f64; 4]) -> String {
+/// Prints a class's times and answers its ratio. The whole answer's time and
+/// the floor's are not measured of each.
+fn told(
+    class: &str,
+    lines: usize,
+    bytes: usize,
+    ours: f64,
+    theirs: f64,
+    [whole, floor]: [Option<f64>; 2],
+) -> String {
     let ratio = theirs / ours;
-    let whole = if whole > 1.0 {
-        format!("{whole:.0}")
-    } else {
-        "-".into()
-    };
+    let or_none = |text: Option<String>| text.unwrap_or("-".into());
+    let whole = or_none(whole.map(|whole| format!("{whole:.0}")));
+    let over = or_none(floor.map(|floor| format!("{:.1}", ours / floor)));
+    let floor = or_none(floor.map(|floor| format!("{floor:.0}")));
     println!(
-        "{class:<8} {lines:>5}  {:>5.0}  {ours:>4.0}  {whole:>12}  {theirs:>5.0}  {ratio:>5.2}  {floor:>5.0}  {:>15.1}",
+        "{class:<10} {lines:>7}  {:>5.0}  {ours:>4.0}  {whole:>12}  {theirs:>5.0}  {ratio:>5.2}  {floor:>5}  {over:>15}",
         bytes as f64 / lines as f64,
-        ours / floor
     );
     format!("{class}={ratio:.2}")
 }
@@ -190,7 +230,37 @@ fn walk(log: &[u8]) -> [u64; abi::TOTALS] {
     totals
 }
 
+/// Gathers the lines over a table, and reads each group. How many there are.
+fn gather(lines: &[&[u8]]) -> usize {
+    let mut table = [0; abi::TABLE];
+    let mut words = [0; abi::WORDS];
+    let mut row = [0; abi::ROW_WORDS];
+    let mut groups = 0;
+    abi::fresh(&mut table);
+    for line in lines {
+        let did = abi::gather(line, &mut words, &mut table);
+        black_box(&words);
+        if let Some(number) = did.checked_sub(4) {
+            groups += abi::row(&table, number as usize, &mut row) as usize;
+            black_box(&row);
+        }
+    }
+    groups
+}
+
 /// The same with the crate: every line read, the groups stored.
+fn crate_gather(lines: &[&[u8]]) -> Gatherer {
+    let mut gatherer = Gatherer::default();
+    for line in lines {
+        match parse_bytes(line) {
+            Ok(ParseResult::GSV(data)) => gatherer.put(data),
+            other => seen(other),
+        }
+    }
+    gatherer
+}
+
+/// A walk with the crate: every line read, the groups stored.
 fn crate_walk(log: &[u8]) -> ([u64; 4], Gatherer) {
     let mut gatherer = Gatherer::default();
     let [mut lines, mut blank, mut accepted, mut refused] = [0; 4];

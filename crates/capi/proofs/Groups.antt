@@ -7,7 +7,6 @@ use mathlib.Core.Logic.{_↔_}
 use mathlib.Core.List.{List, [], _∷_, _++_}
 use mathlib.Core.Option.{Option, none, some, Option·none-ne-some}
 use lib.ListN.{length, take, getD, List·getD-map}
-use Rattle.frame.specs.Frame.{sized, frame}
 use Rattle.groups.specs.Log.{Group, Handed}
 use Rattle.groups.specs.Group.{HandedOut}
 use Rattle.gsv.specs.Gsv.{Satellite}
@@ -23,6 +22,7 @@ use Rattle.fed.specs.Fed.{gathered}
 use Rattle.fed.specs.Seen.{seenOf, handedIn, givenBy, givenAt}
 use Rattle.fed.proofs.Accepted.{some-same}
 use Rattle.fed.proofs.Handing.{map-take, hands-list}
+use Rattle.log.proofs.Quiet.{blank-or-read}
 use Rattle.capi.specs.Layout.{zeros}
 use Rattle.capi.specs.Lend.{code, lineCode, gsvIn, rowRoom, entriesWords, rowRead}
 
@@ -49,16 +49,10 @@ abbrev pub called : List ℕ → List (List ℕ) → List ℕ
 called t [] = t
 called t (l ∷ ls) = called (gathers t (gsvIn (answer l)) .gatherer) ls
 
--- a call does what the line does; an empty line is refused, and a blank line does nothing either
-as-said : (l : List ℕ) → gsvIn (answer l) ≡ gsvOf (saidOf l)
-unfolding answer frame sized
-as-said [] = refl
-as-said (b ∷ l) = refl
-
 called-is : (t : List ℕ) (ls : List (List ℕ)) → called t ls ≡ gathered t (saidAll ls)
 called-is t [] = refl
 called-is t (l ∷ ls) =
-    ap (λ (x : Option GsvSentence). called (gathers t x .gatherer) ls) (as-said l) ∙ called-is (gathers t (gsvOf (saidOf l)) .gatherer) ls
+    ap (λ (x : Option GsvSentence). called (gathers t x .gatherer) ls) (blank-or-read l) ∙ called-is (gathers t (gsvOf (saidOf l)) .gatherer) ls
 
 module _ (ls : List (List ℕ)) (i : ℕ) where
   -- the line at i, and what its call does behind the calls before it
@@ -69,7 +63,7 @@ module _ (ls : List (List ℕ)) (i : ℕ) where
   itsCall = gathers (called freshTable (take i ls)) its
 
   its-said : its ≡ gsvOf (getD (saidAll ls) i blank)
-  its-said = as-said (getD ls i []) ∙ ap gsvOf (sym (List·getD-map saidOf ls i []))
+  its-said = blank-or-read (getD ls i []) ∙ ap gsvOf (sym (List·getD-map saidOf ls i []))
 
   table-is : called freshTable (take i ls) ≡ gathered freshTable (take i (saidAll ls))
   table-is = called-is freshTable (take i ls) ∙ ap (gathered freshTable) (map-take saidOf i ls)

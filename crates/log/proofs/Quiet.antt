@@ -2,13 +2,16 @@
 -- GSV line alone. Assumes nothing.
 use Prim.Native.Nat.{ℕ}
 use mathlib.Core.Path.{_≡_, refl, ap}
-use mathlib.Core.List.{List}
+use mathlib.Core.List.{List, [], _∷_}
 use mathlib.Core.Bool.{Bool, true, false, cond}
 use mathlib.Core.Option.{none}
 use lib.Dec.{eqb, ltb}
 use lib.ListN.{length}
+use Rattle.utf8.specs.Utf8.{after, ascii}
+use Rattle.text.specs.Reader.{_>>=_, char}
 use Rattle.frame.specs.Refused.{Refused, logTooLong, badPlace}
-use Rattle.sentence.specs.Sentence.{isRefused}
+use Rattle.frame.specs.Frame.{sentence, sized, frame}
+use Rattle.sentence.specs.Sentence.{isRefused, answer}
 use Rattle.lines.specs.Places.{isPlace, lineAt, nextPlace}
 use Rattle.fed.specs.Line.{Said, blank, read, saidOf, gsvOf, Gatherer, untouched, gathers}
 use Rattle.log.specs.Step.{longest, Step, refused, end, line, Stepped, idle, stepAt, stepOf}
@@ -45,3 +48,9 @@ refused-line r = refl
 
 pub blank-line : gsvOf blank ≡ none
 blank-line = refl
+
+-- who reads a blank line too is answered a refusal: it does as little
+pub blank-or-read : (l : List ℕ) → gsvOf (read (answer l)) ≡ gsvOf (saidOf l)
+unfolding answer frame sized sentence _>>=_ char after ascii
+blank-or-read [] = refl
+blank-or-read (b ∷ l) = refl

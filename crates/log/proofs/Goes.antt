@@ -3,32 +3,26 @@
 use Prim.Native.Nat.{ℕ, suc, _+_, _-_, _≤_, _<_, min}
 use native.Mathlib.Omega.{arith}
 use mathlib.Core.Path.{_≡_, refl, ap, sym, _∙_, subst}
-use mathlib.Core.List.{List, []}
+use mathlib.Core.List.{List}
 use mathlib.Core.Bool.{Bool, true, false}
+use mathlib.Core.Option.{Option, none, some}
 use lib.ListN.{length, drop}
 use Rattle.lines.specs.Lines.{lines}
 use Rattle.lines.specs.Places.{isPlace, lineAt, nextPlace}
 use Rattle.lines.proofs.Next.{next-within, next-more, next-place, lines-here, lines-end}
 use Rattle.rows.specs.Line.{lineOf}
-use Rattle.sentence.specs.Answer.{gsvSentence}
-use Rattle.sentence.specs.declared.GsvRecord.{GsvRecord}
-use Rattle.gather.specs.Table.{Gathers}
-use Rattle.gather.specs.declared.line.Outcome.{Outcome}
+use Rattle.sentence.specs.Sentence.{GsvSentence}
 use Rattle.gather.proofs.Tables.{table-long}
 use Rattle.fed.specs.Line.{saidOf, gsvOf, Gatherer, Gathered, gathers}
 use Rattle.fed.specs.Fed.{isHanded}
 use Rattle.fed.proofs.Counts.{one-of-three}
-use Rattle.log.specs.declared.line.Found.{Found}
-use Rattle.log.specs.declared.line.Found.the-variants.{No, Is}
-use Rattle.log.specs.declared.line.Here.{Here}
 use Rattle.log.specs.declared.walk.Counts.{Counts}
-use Rattle.log.specs.declared.walk.Sort.{Sort}
+use Rattle.log.specs.declared.walk.Turn.{Turn}
 use Rattle.log.specs.Step.{Stepped}
 use Rattle.log.specs.Walk.{tallied, grouped, Going, counted, onward, steps, begin}
-use Rattle.log.specs.Answer.{saidIn, foundIn, SaysHere}
-use Rattle.log.specs.Code.{sortOf, talliedBy, Within}
+use Rattle.log.specs.Code.{talliedBy, Within, Turned}
 use Rattle.log.proofs.Places.{place-within}
-use Rattle.log.proofs.Adds.{found-is, adds}
+use Rattle.log.proofs.Adds.{by-sort}
 use Rattle.log.proofs.OneStep.{at-line, good-place}
 
 -- the counts with a line more, and what it does to the gatherer
@@ -159,42 +153,29 @@ module _ (log : List ℕ) (place allowance : ℕ) (g : Gatherer) (c : Counts) (a
             ∙ ap (λ (j : ℕ). goOn log j (record { counts = c'; gatherer = a' })) k;
       }
 
-  -- the line there, as the code has it
-  module _ (h : Here) (sh : SaysHere log (c .next) h) (s : Sort) (es : s ≡ sortOf (saidIn [] (h .said)))
-      (t : Counts) (et : t ≡ talliedBy c s (h .next)) where
-    right : t ≡ lineTallied log c
-    right = adds log (c .next) h sh c es et
+  -- a turn of the code is a step at a line
+  module _ (a' : Gatherer) (t : Turn) (x : Turned log (c .next) a a' t) (u : Counts) (eu : u ≡ talliedBy c (t .sort) (t .next)) where
+    right : u ≡ lineTallied log c
+    right = eu ∙ (λ i. talliedBy c (x .sort i) (x .next i)) ∙ by-sort c (nextPlace log (c .next)) (saidOf (lineAt log (c .next)))
 
-    -- the place grows
-    pub further : length log - t .next < length log - c .next
-    further =
-        let e : t .next ≡ nextPlace log (c .next) = ap (λ (x : Counts). x .next) right in
-        omega (arith, next-more log (c .next) in', next-within log (c .next))
-
-    pub further-grouped : (b : Bool) (c' : Counts) → c' ≡ grouped t b → length log - c' .next < length log - c .next
-    further-grouped b c' e =
-        let z : c' .next ≡ t .next = ap (λ (x : Counts). x .next) e ∙ grouped-next t b in
-        omega (arith, further)
-
-    pub few-groups : t .groups ≤ 65536
+    pub few-groups : u .groups ≤ 65536
     few-groups =
-        let e : t .groups ≡ c .groups = ap (λ (x : Counts). x .groups) right in
+        let e : u .groups ≡ c .groups = ap (λ (y : Counts). y .groups) right in
         omega (arith, now' .short, now' .fit)
 
-    -- and what it is
-    module _ (f : Found) (ef : foundIn f ≡ gsvOf (saidIn [] (h .said))) where
-      found : {x : Found} → f ≡ x → gathers a (foundIn x) ≡ lineGathered log w
-      found e = sym (ap (λ (y : Found). gathers a (foundIn y)) e) ∙ ap (gathers a) (found-is log (c .next) h sh ef)
+    module _ (c' : Counts) (ec : c' ≡ grouped u (t .handed)) where
+      -- the place grows
+      pub further : length log - c' .next < length log - c .next
+      further =
+          let e : u .next ≡ nextPlace log (c .next) = ap (λ (y : Counts). y .next) right in
+          let z : c' .next ≡ u .next = ap (λ (y : Counts). y .next) ec ∙ grouped-next u (t .handed) in
+          omega (arith, next-more log (c .next) in', next-within log (c .next))
 
-      pub after-other : f ≡ No → Goes log place allowance g t a
-      after-other e =
-          goes-on t a ((λ i. record { counts = right i; gatherer = a }) ∙ ap (goingBy (lineTallied log c)) (found e)) (now' .rows)
-
-      -- a line that gathers
-      pub after-gathered : (r : GsvRecord) → f ≡ Is r → (a' : Gatherer) (o : Outcome) → Gathers a a' (lineOf (gsvSentence r)) o
-          → (c' : Counts) → c' ≡ grouped t (isHanded o) → Goes log place allowance g c' a'
-      after-gathered r e a' o x c' ec =
-          goes-on c' a'
-          ((λ i. record { counts = (ec ∙ (λ j. grouped (right j) (isHanded o))) i; gatherer = a' })
-          ∙ ap (goingBy (lineTallied log c)) ((λ i. record { gatherer = x .words i; handed = x .says i }) ∙ found e))
-          (ap length (x .words) ∙ table-long a (lineOf (gsvSentence r)) ∙ now' .rows)
+      pub after-turn : Goes log place allowance g c' a'
+      after-turn =
+          goes-on c' a' (λ i. record { counts = (ec ∙ (λ j. grouped (right j) (x .handed j))) i; gatherer = x .words i })
+          (ap length (x .words) ∙ long (gsvOf (saidOf (lineAt log (c .next)))) ∙ now' .rows)
+        where
+          long : (f : Option GsvSentence) → length (gathers a f .gatherer) ≡ length a
+          long none = refl
+          long (some s) = table-long a (lineOf s)

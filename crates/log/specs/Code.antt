@@ -8,12 +8,15 @@ use lib.ListN.{length, take, drop}
 use Rattle.gsa.specs.Answer.{row}
 use Rattle.sentence.specs.Sentence.{isRmc, isGsa, isGsv, isOther, isRefused}
 use Rattle.lines.specs.Lines.{lineFeed}
-use Rattle.lines.specs.Places.{lineAt, stretch}
+use Rattle.lines.specs.Places.{lineAt, nextPlace, stretch}
 use Rattle.gather.specs.declared.line.Outcome.the-variants.{Nothing}
-use Rattle.fed.specs.Line.{Said, blank, read}
+use Rattle.fed.specs.Line.{Said, blank, read, saidOf, gsvOf, gathers}
+use Rattle.fed.specs.Fed.{isHanded}
 use Rattle.log.specs.declared.step.Stepped.{Stepped}
 use Rattle.log.specs.declared.step.StepAnswer.{StepAnswer}
 use Rattle.log.specs.declared.walk.Counts.{Counts}
+use Rattle.log.specs.declared.walk.Taken.{Taken}
+use Rattle.log.specs.declared.walk.Turn.{Turn}
 use Rattle.log.specs.declared.walk.Sort.{Sort}
 use Rattle.log.specs.declared.walk.Sort.the-variants.{Blank, Accepted, Refused}
 
@@ -56,3 +59,16 @@ pub record Within (c : Counts) : Type 0 where
   pub blank : c .blank ≤ 65536
   pub accepted : c .accepted ≤ 65536
   pub refused : c .refused ≤ 65536
+
+-- what a line counts as and does to the words
+pub record Took (s : Said) (t t′ : List ℕ) (r : Taken) : Type 0 where
+  pub sort : r .sort ≡ sortOf s
+  pub handed : r .handed ≡ isHanded (gathers t (gsvOf s) .handed)
+  pub words : t′ ≡ gathers t (gsvOf s) .gatherer
+
+-- of the line at a place, with the place after it
+pub record Turned (log : List ℕ) (p : ℕ) (t t′ : List ℕ) (r : Turn) : Type 0 where
+  pub sort : r .sort ≡ sortOf (saidOf (lineAt log p))
+  pub handed : r .handed ≡ isHanded (gathers t (gsvOf (saidOf (lineAt log p))) .handed)
+  pub words : t′ ≡ gathers t (gsvOf (saidOf (lineAt log p))) .gatherer
+  pub next : r .next ≡ nextPlace log p

@@ -77,7 +77,7 @@ fn skip(log: &[u8], at: usize) -> usize
 }
 
 // The place of the first line feed from `at` on, or the end.
-fn line_end(log: &[u8], at: usize) -> usize
+pub(crate) fn line_end(log: &[u8], at: usize) -> usize
     ensures { λ r. ⌜ r ≡ at + length (stretch (drop at (now (log .entry)))) ⌝ }
 {
     let mut i = skip(log, at);
@@ -91,7 +91,7 @@ fn line_end(log: &[u8], at: usize) -> usize
 }
 
 // The line's end without a carriage return before it.
-fn line_cut(log: &[u8], at: usize, end: usize) -> usize
+pub(crate) fn line_cut(log: &[u8], at: usize, end: usize) -> usize
     requires { ⌜ (at ≤ length (now log)) × (end ≡ at + length (stretch (drop at (now log)))) ⌝ }
     ensures { λ r. ⌜ CutAt (now (log .entry)) at r ⌝ }
 {
@@ -105,7 +105,7 @@ fn line_cut(log: &[u8], at: usize, end: usize) -> usize
 }
 
 // The place after the line feed, or the end.
-fn line_next(log: &[u8], end: usize) -> usize
+pub(crate) fn line_next(log: &[u8], end: usize) -> usize
     ensures { λ r. ⌜ r ≡ min (end + 1) (length (now (log .entry))) ⌝ }
 {
     if end < log.len() {

@@ -1,16 +1,16 @@
 // A walk: as many steps as it may take, or as there are lines left, counted.
 ghost use mathlib.Core.Path.{_≡_};
 ghost use mathlib.Core.List.{[]};
-ghost use Prim.Native.Nat.{_≤_};
+ghost use Prim.Native.Nat.{_≤_, _<_};
 ghost use lib.ListN.{length};
 ghost use Rattle.gather.specs.Table.{freshTable};
+ghost use Rattle.sentence.specs.Answer.{recordOf};
+ghost use Rattle.fed.specs.Line.{read};
 ghost use Rattle.fed.specs.Fed.{isHanded};
 ghost use Rattle.log.specs.Walk.{grouped, walkOf};
-ghost use Rattle.log.specs.Answer.{saidIn, walkIn, SaysWalk};
-ghost use Rattle.log.specs.Code.{sortOf, talliedBy, Within};
+ghost use Rattle.log.specs.Answer.{walkIn, SaysWalk};
+ghost use Rattle.log.specs.Code.{talliedBy, Within, Took, Turned};
 use crate::line;
-use crate::line::Found;
-use crate::line::Said;
 use frame::Refusal;
 use gather::line::Outcome;
 use sentence::Record;
@@ -36,21 +36,6 @@ pub enum Sort {
     Blank,
     Accepted,
     Refused,
-}
-
-pub(crate) fn sort_of(said: Said) -> Sort
-    ensures { λ r. ⌜ r ≡ sortOf (saidIn [] said) ⌝ }
-{
-    match said {
-        Said::Blank => Sort::Blank,
-        Said::Read(a) => match a {
-            Record::Rmc(_) => Sort::Accepted,
-            Record::Gsa(_) => Sort::Accepted,
-            Record::Gsv(_) => Sort::Accepted,
-            Record::Other(_) => Sort::Accepted,
-            Record::Refused(_) => Sort::Refused,
-        },
-    }
 }
 
 // One more line.
@@ -116,6 +101,78 @@ fn is_handed(o: Outcome) -> bool
     }
 }
 
+// What a line counts as, and whether it hands out a group.
+pub struct Taken {
+    pub sort: Sort,
+    pub handed: bool,
+}
+
+// What a record counts as and does to the table.
+fn take(answer: Record, words: &mut [u32]) -> Taken
+    ensures { λ r. ⌜ Took (read (recordOf [] answer)) (now (words .entry)) (now (words .exit)) r ⌝ }
+{
+    match answer {
+        Record::Rmc(_) => Taken {
+            sort: Sort::Accepted,
+            handed: false,
+        },
+        Record::Gsa(_) => Taken {
+            sort: Sort::Accepted,
+            handed: false,
+        },
+        Record::Gsv(report) => {
+            let out = gather::table::gather(&mut *words, report);
+            let handed = is_handed(out);
+            Taken {
+                sort: Sort::Accepted,
+                handed: handed,
+            }
+        }
+        Record::Other(_) => Taken {
+            sort: Sort::Accepted,
+            handed: false,
+        },
+        Record::Refused(_) => Taken {
+            sort: Sort::Refused,
+            handed: false,
+        },
+    }
+}
+
+// The same of the line at a place, and the place after it.
+pub struct Turn {
+    pub sort: Sort,
+    pub handed: bool,
+    pub next: usize,
+}
+
+// The line at a place that is not the end. It goes from the reader to the table at once: a step's answer would be copied on the way.
+fn advance(log: &[u8], at: usize, words: &mut [u32]) -> Turn
+    requires { ⌜ at < length (now log) ⌝ }
+    ensures { λ r. ⌜ Turned (now (log .entry)) at (now (words .entry)) (now (words .exit)) r ⌝ }
+{
+    let end = line::line_end(log, at);
+    let cut = line::line_cut(log, at, end);
+    let next = line::line_next(log, end);
+    if cut == at {
+        let sort = Sort::Blank;
+        return Turn {
+            sort: sort,
+            handed: false,
+            next: next,
+        };
+    }
+    let read = sentence::parse_bytes(&log[at..cut]);
+    let answer = read.answer;
+    let taken = take(answer, &mut *words);
+    let sort = taken.sort;
+    Turn {
+        sort: sort,
+        handed: taken.handed,
+        next: next,
+    }
+}
+
 // At most `allowance` lines from a place on. The gatherer's words are changed in place.
 pub fn walk(log: &[u8], place: usize, allowance: usize, words: &mut [u32]) -> Walked
     ensures { λ r. ⌜ SaysWalk (walkOf (now (log .entry)) place allowance (now (words .entry))) (now (words .exit)) r × (now (log .exit) ≡ now (log .entry)) ⌝ }
@@ -139,18 +196,11 @@ pub fn walk(log: &[u8], place: usize, allowance: usize, words: &mut [u32]) -> Wa
         if log.len() <= at {
             break;
         }
-        let h = line::line_here(log, at);
-        let said = h.said;
-        let next = h.next;
-        let sort = sort_of(said);
+        let t = advance(log, at, &mut *words);
+        let sort = t.sort;
+        let next = t.next;
         c = tally(c, sort, next);
-        let found = line::gsv_of(said);
-        let Found::Is(report) = found else {
-            continue;
-        };
-        let out = gather::table::gather(&mut *words, report);
-        let handed = is_handed(out);
-        c = with_group(c, handed);
+        c = with_group(c, t.handed);
     }
     Walked::Went(c)
 }

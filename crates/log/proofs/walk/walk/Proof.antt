@@ -1,12 +1,11 @@
 -- `walk` meets its contract: at the loop's head, the steps of the whole walk are those that are left. Assumes nothing.
 use Prim.Native.Nat.{_-_}
-use mathlib.Core.Path.{refl, ap, sym, _∙_}
+use mathlib.Core.Path.{refl, sym, _∙_}
 use denote.Ref.{now}
 use lib.ListN.{length}
 use borrow.Author.Tests.{not-false}
 use borrow.Author.Needs.{needs}
-use Rattle.log.specs.Walk.{grouped}
-use Rattle.log.proofs.Goes.{Goes, goes-first, after-other, after-gathered, fit-within, further, further-grouped, few-groups}
+use Rattle.log.proofs.Goes.{Goes, goes-first, fit-within, few-groups, further, after-turn}
 use Rattle.log.proofs.Answers.{walk-long, walk-bad, walk-used, walk-ended}
 use Rattle.log.proofs.walk.walk.Statement.{statement}
 use Rattle.log.proofs.walk.walk.Tie as tie
@@ -33,71 +32,34 @@ loop-holds c =
     let a = c .before .before .before .before .before .args in
     goes-first (now (a .log)) (a .place) (a .allowance) (now (a .words)) (c .before .before .if1 .left) (sym (c .before .is-place .ensures .0) ∙ not-false _ (c .if2 .left))
 
-line-here-requires : tie.Need-line-here-requires Inv-loop μ-loop
-line-here-requires c κs = search needs
-
-sort-of-requires : tie.Need-sort-of-requires Inv-loop μ-loop
-sort-of-requires c κs = search needs
+advance-requires : tie.Need-advance-requires Inv-loop μ-loop
+advance-requires c κs = search needs
 
 tally-requires : tie.Need-tally-requires Inv-loop μ-loop
 tally-requires c κs =
-    let k = c .before .before .before .before .before in
-    fit-within (now (c .before .before .before .before .before .before .before .before .before .before .before .args .log)) (k .loop .c) (k .loop .inv .fit) (k .loop .inv .short)
+    let k = c .before .before .before .before .before .before .before in
+    fit-within (now (c .before .before .before .before .before .before .before .before .before .before .before .before .before .args .log)) (k .loop .c) (k .loop .inv .fit) (k .loop .inv .short)
 
-gsv-of-requires : tie.Need-gsv-of-requires Inv-loop μ-loop
-gsv-of-requires c κs = search needs
-
-enum-known-found : tie.Need-enum-known-found Inv-loop μ-loop
-enum-known-found c = search needs
-
-enum-told : tie.Need-enum-told Inv-loop μ-loop
-enum-told c = search needs
+with-group-requires : tie.Need-with-group-requires Inv-loop μ-loop
+with-group-requires c κs =
+    let k = c .before .before .before .before .before .before .before .before in
+    let a = c .before .before .before .before .before .before .before .before .before .before .before .before .before .before .args in
+    few-groups (now (a .log)) (a .place) (a .allowance) (now (a .words)) (k .loop .c) (k .loop .words) (k .loop .inv) (c .before .before .before .before .before .before .if3 .taken) (c .before .before .before .before .before .if4 .left) _ (c .before .before .before .advance .result) (c .before .before .before .advance .ensures)
+    (c .tally .result) (c .tally .ensures)
 
 loop-less : tie.Need-loop-less Inv-loop μ-loop
 loop-less c =
     let k = c .before .before .before .before .before .before .before .before .before in
     let a = c .before .before .before .before .before .before .before .before .before .before .before .before .before .before .before .args in
-    further (now (a .log)) (a .place) (a .allowance) (now (a .words)) (k .loop .c) (k .loop .words) (k .loop .inv) (c .before .before .before .before .before .before .before .if3 .taken) (c .before .before .before .before .before .before .if4 .left)
-    (c .before .before .before .before .before .line-here .result) (c .before .before .before .before .before .line-here .ensures) (c .before .before .before .before .sort-of .result) (c .before .before .before .before .sort-of .ensures) (c .before .before .before .tally .result) (c .before .before .before .tally .ensures)
+    further (now (a .log)) (a .place) (a .allowance) (now (a .words)) (k .loop .c) (k .loop .words) (k .loop .inv) (c .before .before .before .before .before .before .before .if3 .taken) (c .before .before .before .before .before .before .if4 .left) _ (c .before .before .before .before .advance .result) (c .before .before .before .before .advance .ensures)
+    (c .before .tally .result) (c .before .tally .ensures) (c .with-group .result) (c .with-group .ensures)
 
 loop-again : tie.Need-loop-again Inv-loop μ-loop
 loop-again c =
     let k = c .before .before .before .before .before .before .before .before .before in
     let a = c .before .before .before .before .before .before .before .before .before .before .before .before .before .before .before .args in
-    after-other (now (a .log)) (a .place) (a .allowance) (now (a .words)) (k .loop .c) (k .loop .words) (k .loop .inv) (c .before .before .before .before .before .before .before .if3 .taken) (c .before .before .before .before .before .before .if4 .left)
-    (c .before .before .before .before .before .line-here .result) (c .before .before .before .before .before .line-here .ensures) (c .before .before .before .before .sort-of .result) (c .before .before .before .before .sort-of .ensures) (c .before .before .before .tally .result) (c .before .before .before .tally .ensures)
-    (c .before .before .gsv-of .result) (c .before .before .gsv-of .ensures) (c .enum-told .given .1)
-
-gather-requires : tie.Need-gather-requires Inv-loop μ-loop
-gather-requires c κs = search needs
-
-is-handed-requires : tie.Need-is-handed-requires Inv-loop μ-loop
-is-handed-requires c κs = search needs
-
-with-group-requires : tie.Need-with-group-requires Inv-loop μ-loop
-with-group-requires c κs =
-    let k = c .before .before .before .before .before .before .before .before .before .before .before .before .before .before .before in
-    let a = c .before .before .before .before .before .before .before .before .before .before .before .before .before .before .before .before .before .before .before .before .before .args in
-    few-groups (now (a .log)) (a .place) (a .allowance) (now (a .words)) (k .loop .c) (k .loop .words) (k .loop .inv) (c .before .before .before .before .before .before .before .before .before .before .before .before .before .if3 .taken) (c .before .before .before .before .before .before .before .before .before .before .before .before .if4 .left)
-    (c .before .before .before .before .before .before .before .before .before .before .before .line-here .result) (c .before .before .before .before .before .before .before .before .before .before .before .line-here .ensures) (c .before .before .before .before .before .before .before .before .before .before .sort-of .result) (c .before .before .before .before .before .before .before .before .before .before .sort-of .ensures) (c .before .before .before .before .before .before .before .before .before .tally .result) (c .before .before .before .before .before .before .before .before .before .tally .ensures)
-
-loop-less-2 : tie.Need-loop-less-2 Inv-loop μ-loop
-loop-less-2 c =
-    let k = c .before .before .before .before .before .before .before .before .before .before .before .before .before .before .before .before in
-    let a = c .before .before .before .before .before .before .before .before .before .before .before .before .before .before .before .before .before .before .before .before .before .before .args in
-    further-grouped (now (a .log)) (a .place) (a .allowance) (now (a .words)) (k .loop .c) (k .loop .words) (k .loop .inv) (c .before .before .before .before .before .before .before .before .before .before .before .before .before .before .if3 .taken) (c .before .before .before .before .before .before .before .before .before .before .before .before .before .if4 .left)
-    (c .before .before .before .before .before .before .before .before .before .before .before .before .line-here .result) (c .before .before .before .before .before .before .before .before .before .before .before .before .line-here .ensures) (c .before .before .before .before .before .before .before .before .before .before .before .sort-of .result) (c .before .before .before .before .before .before .before .before .before .before .before .sort-of .ensures) (c .before .before .before .before .before .before .before .before .before .before .tally .result) (c .before .before .before .before .before .before .before .before .before .before .tally .ensures)
-    (c .before .is-handed .result) (c .with-group .result) (c .with-group .ensures)
-
-loop-again-2 : tie.Need-loop-again-2 Inv-loop μ-loop
-loop-again-2 c =
-    let k = c .before .before .before .before .before .before .before .before .before .before .before .before .before .before .before .before in
-    let a = c .before .before .before .before .before .before .before .before .before .before .before .before .before .before .before .before .before .before .before .before .before .before .args in
-    let t = c .before .before .before .before .before .before .before .before .before .before .tally .result in
-    after-gathered (now (a .log)) (a .place) (a .allowance) (now (a .words)) (k .loop .c) (k .loop .words) (k .loop .inv) (c .before .before .before .before .before .before .before .before .before .before .before .before .before .before .if3 .taken) (c .before .before .before .before .before .before .before .before .before .before .before .before .before .if4 .left)
-    (c .before .before .before .before .before .before .before .before .before .before .before .before .line-here .result) (c .before .before .before .before .before .before .before .before .before .before .before .before .line-here .ensures) (c .before .before .before .before .before .before .before .before .before .before .before .sort-of .result) (c .before .before .before .before .before .before .before .before .before .before .before .sort-of .ensures) (c .before .before .before .before .before .before .before .before .before .before .tally .result) (c .before .before .before .before .before .before .before .before .before .before .tally .ensures)
-    (c .before .before .before .before .before .before .before .before .before .gsv-of .result) (c .before .before .before .before .before .before .before .before .before .gsv-of .ensures) _ (c .before .before .before .before .before .before .before .found .given .1) _ (c .before .before .before .before .gather .result) (c .before .before .before .before .gather .ensures)
-    (c .with-group .result) (c .with-group .ensures ∙ ap (grouped t) (c .before .is-handed .ensures))
+    after-turn (now (a .log)) (a .place) (a .allowance) (now (a .words)) (k .loop .c) (k .loop .words) (k .loop .inv) (c .before .before .before .before .before .before .before .if3 .taken) (c .before .before .before .before .before .before .if4 .left) _ (c .before .before .before .before .advance .result) (c .before .before .before .before .advance .ensures)
+    (c .before .tally .result) (c .before .tally .ensures) (c .with-group .result) (c .with-group .ensures)
 
 same-length : tie.Need-same-length Inv-loop μ-loop
 same-length c = c .before .before .loop .inv .rows
@@ -127,19 +89,11 @@ walk-spec =
     is-place-requires
     returns-2
     loop-holds
-    line-here-requires
-    sort-of-requires
+    advance-requires
     tally-requires
-    gsv-of-requires
-    enum-known-found
-    enum-told
+    with-group-requires
     loop-less
     loop-again
-    gather-requires
-    is-handed-requires
-    with-group-requires
-    loop-less-2
-    loop-again-2
     same-length
     returns-3
     same-length-2

@@ -539,7 +539,7 @@ fn contracts_are_brought_to_the_words_of_theorems() {
         (
             "Filled (now (s .entry)) (now (out .entry)) (now (out .exit)) r",
             &[],
-            "Filled s before l r",
+            "Filled s out l r",
             &["l", "r"],
         ),
         (

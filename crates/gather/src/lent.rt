@@ -152,7 +152,7 @@ fn pieces(row: &[u32], view: u32, count: usize) -> usize
 
 // Lines of at most 102 bytes can leave this row.
 pub fn row_stands(row: &[u32]) -> bool
-    ensures { λ r. ⌜ r ≡ stands (now (row .entry)) ⌝ }
+    ensures { λ r. ⌜ (r ≡ stands (now (row .entry))) × (now (row .exit) ≡ now (row .entry)) ⌝ }
 {
     if row.len() != ROW {
         return false;

@@ -38,24 +38,24 @@ pub nmea-refusal : (line : List ℕ) {r q : ℕ}
     → r ≡ q
 nmea-refusal line x y = same (x .0) (y .0)
 
-pub nmea-answer : (line before : List ℕ) {l m : List ℕ} {r q : ℕ} → Answered line before l r → Answered line before m q → (r ≡ q) × (l ≡ m)
-nmea-answer line before x y =
-    by-room 40 (length before) (λ h. both (x .written h) (y .written h)) (λ h. both (x .short h) (y .short h))
+pub nmea-answer : (line out : List ℕ) {l m : List ℕ} {r q : ℕ} → Answered line out l r → Answered line out m q → (r ≡ q) × (l ≡ m)
+nmea-answer line out x y =
+    by-room 40 (length out) (λ h. both (x .written h) (y .written h)) (λ h. both (x .short h) (y .short h))
 
-pub nmea-walk : (log before : List ℕ) {l m : List ℕ} {r q : ℕ} → WalkedAll log before l r → WalkedAll log before m q → (r ≡ q) × (l ≡ m)
-nmea-walk log before x y =
-    by-room 5 (length before)
-    (λ h. tells (walkOf log 0 (length log) freshTable .answer) before (x .written h) (y .written h))
+pub nmea-walk : (log out : List ℕ) {l m : List ℕ} {r q : ℕ} → WalkedAll log out l r → WalkedAll log out m q → (r ≡ q) × (l ≡ m)
+nmea-walk log out x y =
+    by-room 5 (length out)
+    (λ h. tells (walkOf log 0 (length log) freshTable .answer) out (x .written h) (y .written h))
     (λ h. both (x .short h) (y .short h))
 
 pub nmea-fresh : (table : List ℕ) {l m : List ℕ} {r q : ℕ} → Freshened table l r → Freshened table m q → (r ≡ q) × (l ≡ m)
 nmea-fresh table x y = (same (x .says) (y .says), same (x .table) (y .table))
 
-pub nmea-gather : (line before table : List ℕ) {l m t u : List ℕ} {r q : ℕ}
-    → GatheredLine line before l table t r
-    → GatheredLine line before m table u q
+pub nmea-gather : (line out table : List ℕ) {l m : List ℕ} {t u : List ℕ} {r q : ℕ}
+    → GatheredLine line out l table t r
+    → GatheredLine line out m table u q
     → (r ≡ q) × (l ≡ m) × (t ≡ u)
-nmea-gather line before table x y = (same (x .says) (y .says), same (x .words) (y .words), same (x .table) (y .table))
+nmea-gather line out table x y = (same (x .says) (y .says), same (x .words) (y .words), same (x .table) (y .table))
 
-pub nmea-row : (table : List ℕ) (row : ℕ) (before : List ℕ) {l m : List ℕ} {r q : ℕ} → RowRead table row before l r → RowRead table row before m q → (r ≡ q) × (l ≡ m)
-nmea-row table row before x y = (same (x .says) (y .says), same (x .words) (y .words))
+pub nmea-row : (table : List ℕ) (row : ℕ) (out : List ℕ) {l m : List ℕ} {r q : ℕ} → RowRead table row out l r → RowRead table row out m q → (r ≡ q) × (l ≡ m)
+nmea-row table row out x y = (same (x .says) (y .says), same (x .words) (y .words))

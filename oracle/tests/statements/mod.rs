@@ -272,9 +272,8 @@ pub struct Contract {
     pub answers: Vec<String>,
 }
 
-/// What a written buffer holds before the call, and after it.
-const BEFORE: &str = "before";
-const AFTER: &str = "l";
+/// What is written holds after the call, the first and the second; what it held before has its own name.
+const AFTER: [&str; 2] = ["l", "t"];
 
 pub fn contract(function: &Function, renamed: &[Renamed]) -> Result<Contract, String> {
     let ensures = function.ensures.as_deref().ok_or("has no `ensures`")?;
@@ -300,6 +299,7 @@ pub fn contract(function: &Function, renamed: &[Renamed]) -> Result<Contract, St
 
     let mut given: Vec<String> = vec![];
     let mut answers: Vec<String> = vec![];
+    let mut after = AFTER.iter();
     for (part, name) in renamed {
         let part = words(part);
         said = replaced(&said, &part, name);
@@ -316,12 +316,12 @@ pub fn contract(function: &Function, renamed: &[Renamed]) -> Result<Contract, St
             given.extend(parts.iter().map(|(_, new)| (*new).to_owned()));
             continue;
         }
-        let before = if *written { BEFORE } else { name };
-        said = replaced(&said, &words(&format!("now ({name} .entry)")), before);
-        given.push(before.to_owned());
+        said = replaced(&said, &words(&format!("now ({name} .entry)")), name);
+        given.push(name.to_owned());
         if *written {
-            said = replaced(&said, &words(&format!("now ({name} .exit)")), AFTER);
-            answers.push(AFTER.to_owned());
+            let after = after.next().ok_or("it writes more than two slices")?;
+            said = replaced(&said, &words(&format!("now ({name} .exit)")), after);
+            answers.push((*after).to_owned());
         }
     }
     // Of a part of the lent bytes the contract fixes the bytes.

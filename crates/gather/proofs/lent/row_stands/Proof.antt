@@ -1,5 +1,5 @@
 -- `row_stands` meets its contract: test by test; short entries are only counted, by `Quick`. Assumes nothing.
-use mathlib.Core.Path.{sym, _∙_}
+use mathlib.Core.Path.{refl, sym, _∙_}
 use denote.Ref.{now}
 use borrow.Author.Tests.{le-leb, lt-leb, eq-eqb, ne-eqb}
 use Rattle.gather.proofs.Tests.{failed, passed}
@@ -9,56 +9,64 @@ use Rattle.gather.proofs.lent.row_stands.Statement.{statement}
 use Rattle.gather.proofs.lent.row_stands.Tie as tie
 
 returns : tie.Need-returns
-returns c = simp (ne-eqb _ _ (c .if1 .taken))
+returns c = (simp (ne-eqb _ _ (c .if1 .taken)), refl)
 
 shared-slice-read-next : tie.Need-shared-slice-read-next
 shared-slice-read-next c = search needs
 
 returns-2 : tie.Need-returns-2
-returns-2 c =
-    simp (
-      eq-eqb _ _ (c .before .before .if1 .left),
-      lt-leb _ _ (c .if2 .taken),
-    )
+returns-2 c = (
+  simp (
+    eq-eqb _ _ (c .before .before .if1 .left),
+    lt-leb _ _ (c .if2 .taken),
+  ),
+  refl,
+)
 
 shared-slice-read-n : tie.Need-shared-slice-read-n
 shared-slice-read-n c = search needs
 
 returns-3 : tie.Need-returns-3
-returns-3 c =
-    simp (
-      eq-eqb _ _ (c .before .before .before .before .if1 .left),
-      le-leb _ _ (c .before .before .if2 .left),
-      lt-leb _ _ (c .if3 .taken),
-    )
+returns-3 c = (
+  simp (
+    eq-eqb _ _ (c .before .before .before .before .if1 .left),
+    le-leb _ _ (c .before .before .if2 .left),
+    lt-leb _ _ (c .if3 .taken),
+  ),
+  refl,
+)
 
 returns-4 : tie.Need-returns-4
-returns-4 c =
-    simp (
-      eq-eqb _ _ (c .before .before .before .before .before .if1 .left),
-      le-leb _ _ (c .before .before .before .if2 .left),
-      le-leb _ _ (c .before .if3 .left),
-      lt-leb _ _ (c .if4 .taken),
-    )
+returns-4 c = (
+  simp (
+    eq-eqb _ _ (c .before .before .before .before .before .if1 .left),
+    le-leb _ _ (c .before .before .before .if2 .left),
+    le-leb _ _ (c .before .if3 .left),
+    lt-leb _ _ (c .if4 .taken),
+  ),
+  refl,
+)
 
 shared-slice-read-view : tie.Need-shared-slice-read-view
 shared-slice-read-view c = search needs
 
 returns-5 : tie.Need-returns-5
-returns-5 c =
-    simp (
-      eq-eqb _ _ (c .before .before .before .before .before .before .before .if1 .left),
-      le-leb _ _ (c .before .before .before .before .before .if2 .left),
-      le-leb _ _ (c .before .before .before .if3 .left),
-      le-leb _ _ (c .before .before .if4 .left),
-      lt-leb _ _ (c .if5 .taken),
-    )
+returns-5 c = (
+  simp (
+    eq-eqb _ _ (c .before .before .before .before .before .before .before .if1 .left),
+    le-leb _ _ (c .before .before .before .before .before .if2 .left),
+    le-leb _ _ (c .before .before .before .if3 .left),
+    le-leb _ _ (c .before .before .if4 .left),
+    lt-leb _ _ (c .if5 .taken),
+  ),
+  refl,
+)
 
 shared-slice-read-many : tie.Need-shared-slice-read-many
 shared-slice-read-many c = search needs
 
 returns-6 : tie.Need-returns-6
-returns-6 c = many-fails (now (c .before .before .before .before .before .before .before .before .before .before .before .args .row)) (c .if6 .taken)
+returns-6 c = (many-fails (now (c .before .before .before .before .before .before .before .before .before .before .before .args .row)) (c .if6 .taken), refl)
 
 cast-count : tie.Need-cast-count
 cast-count c = search needs
@@ -86,7 +94,7 @@ returns-7 c =
       view = c .before .before .before .before .if5 .left;
     }
     in
-    short-stands _ head (sym (c .before .all-within .ensures) ∙ c .if7 .taken)
+    (short-stands _ head (sym (c .before .all-within .ensures) ∙ c .if7 .taken), refl)
 
 all-within-requires-2 : tie.Need-all-within-requires-2
 all-within-requires-2 c κs = search needs
@@ -102,7 +110,7 @@ returns-8 c =
       view = c .before .before .before .before .before .before .if5 .left;
     }
     in
-    unreadable _ head (failed _ _ (c .before .all-within2 .ensures) (c .if8 .taken))
+    (unreadable _ head (failed _ _ (c .before .all-within2 .ensures) (c .if8 .taken)), refl)
 
 pieces-requires : tie.Need-pieces-requires
 pieces-requires c κs = search needs
@@ -118,7 +126,7 @@ returns-9 c =
       view = c .before .before .before .before .before .before .before .if5 .left;
     }
     in
-    exact _ _ head (passed _ _ (c .before .before .all-within2 .ensures) (c .before .if8 .left)) (c .pieces .ensures)
+    (exact _ _ head (passed _ _ (c .before .before .all-within2 .ensures) (c .before .if8 .left)) (c .pieces .ensures), refl)
 
 pub row-stands-spec : {M : Type 1} → statement M
 row-stands-spec =

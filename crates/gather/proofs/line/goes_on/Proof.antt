@@ -28,7 +28,7 @@ row-stands-requires c κs = search needs
 returns-4 : tie.Need-returns-4
 returns-4 c =
     simp (eq-eqb _ _ (c .before .before .before .before .before .if1 .left), eq-eqb _ _ (c .before .before .before .if2 .left), eq-eqb _ _ (c .before .if3 .left))
-    (c .row-stands .ensures)
+    (c .row-stands .ensures .0)
 
 pub goes-on-spec : {M : Type 1} → statement M
 goes-on-spec =

@@ -9,7 +9,8 @@
 //! is run in a copy of the sources there. Whether something has to be proved
 //! again is left to `rt`, which knows what it proved: that a libcapi.a is
 //! newer than the sources would not say that it was made of them. What `rt`
-//! proved in the repository is copied along once, where there is any.
+//! proved in the repository is copied along once, where there is any. (Within the
+//! repository `.cargo/config.toml` has OUT_DIR lie where `rt` takes no copy for a lost source.)
 
 use std::{
     collections::BTreeSet,

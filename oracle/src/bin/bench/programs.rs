@@ -29,7 +29,7 @@ impl Programs {
     /// The programs, with a log of the lines repeated.
     pub fn over(logs: &[Vec<u8>]) -> Result<Self, Box<dyn Error>> {
         let transfer =
-            Path::new(env!("CARGO_MANIFEST_DIR")).join("../rust/target/release/transfer");
+            Path::new(env!("CARGO_MANIFEST_DIR")).join("../target/cargo/release/transfer");
         let plain = env::current_exe()?.with_file_name("plain");
         for program in [&transfer, &plain] {
             if !program.is_file() {

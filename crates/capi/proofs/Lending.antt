@@ -1,21 +1,18 @@
 -- What the calls over a lent table answer, from what their parts do. Assumes nothing.
 use Prim.Native.Nat.{ℕ, suc, _+_, _-_, _*_, _≤_, _<_}
 use native.Mathlib.Omega.{arith}
-use mathlib.Core.Path.{_≡_, refl, ap, sym, _∙_, subst}
+use mathlib.Core.Path.{_≡_, refl, ap, sym, _∙_}
 use mathlib.Core.List.{List, [], _∷_, _++_, append-assoc, append-nil}
 use mathlib.Core.Bool.{Bool, true, false, _&&_, cond}
 use mathlib.Core.Option.{Option, none, some}
 use borrow.Author.Tests.{eq-eqb, ne-eqb, le-leb, lt-leb, lt-ltb, le-ltb}
 use lib.Dec.{eqb, leb, ltb}
 use lib.ListN.{length, take, drop, getD, set, replicate, length-set, length-append, length-replicate, length-drop, drop-of-length-le}
-use lib.Seq.{sets, sets-eq, length-sets, paste}
-use Rattle.gather.specs.Words.{numberOf, satAt, satsFrom, openOf}
-use Rattle.gather.proofs.Cells.{sets-append, sats-append}
-use Rattle.gather.proofs.Quick.{sats-long}
+use lib.Seq.{sets, sets-eq}
 use Rattle.gsv.specs.Answer.{gnss}
 use Rattle.gsv.specs.Gsv.{Satellite}
 use Rattle.gsv.specs.Talker.{System, beidou, galileo, gps, glonass, navic, qzss}
-use Rattle.sentence.specs.Sentence.{Answer, GsvSentence, answer}
+use Rattle.sentence.specs.Sentence.{answer}
 use Rattle.sentence.specs.Answer.{recordOf, gsvSentence, Says}
 use Rattle.sentence.specs.declared.GsvRecord.{GsvRecord}
 use Rattle.sentence.specs.declared.ParseResult.{ParseResult}
@@ -23,9 +20,12 @@ use Rattle.sentence.specs.declared.Record.{Record}
 use Rattle.sentence.specs.declared.Record.the-variants.{Rmc, Gsa, Gsv, Other, Refused}
 use Rattle.rows.specs.Key.{keyOf, rowCount}
 use Rattle.rows.specs.Line.{lineOf}
+use Rattle.gather.specs.Words.{numberOf, satAt, satsFrom}
 use Rattle.gather.specs.Table.{tableWords, freshTable, rowOf, Gathers}
 use Rattle.gather.specs.declared.line.Outcome.{Outcome}
 use Rattle.gather.specs.declared.line.Outcome.the-variants.{Complete}
+use Rattle.gather.proofs.Cells.{sets-append, sats-append}
+use Rattle.gather.proofs.Quick.{sats-long}
 use Rattle.fed.specs.Line.{gathers}
 use Rattle.capi.specs.Layout.{zeros, optionWords, entryWords, systemNumber, words}
 use Rattle.capi.specs.Lend.{Freshened, code, lineCode, gsvIn, Taken, takes, GatheredLine, rowRoom, rowHead, entriesWords, rowRead, reads, RowRead, ReadAs}
@@ -42,11 +42,8 @@ row-system glonass = refl
 row-system navic = refl
 row-system qzss = refl
 
--- a record that is no GSV record, and one that is
+-- a record that is a GSV record
 module _ (x : Record) (t : List ℕ) where
-  pub not-gsv : none ≡ gsvIn (recordOf [] x) → Taken (gsvIn (recordOf [] x)) t t 1
-  not-gsv e = record { table = λ j. gathers t (e j) .gatherer; says = λ j. lineCode (e j) (gathers t (e j)) }
-
   pub is-gsv : (g : GsvRecord) (t′ : List ℕ) (o : Outcome) (k n : ℕ) → x ≡ Gsv g → k ≡ keyOf (gnss (g .system))
       → Gathers t t′ (lineOf (gsvSentence g)) o → n ≡ code o k → Taken (gsvIn (recordOf [] x)) t t′ n
   is-gsv g t′ o k n f ek p en =

@@ -6,7 +6,7 @@ use mathlib.Core.Logic.{_↔_}
 use mathlib.Core.List.{List, [], _∷_, map}
 use mathlib.Core.Option.{Option, none, some}
 use lib.ListN.{length, length-replicate, take, getD, List·getD-map}
-use Rattle.groups.specs.Log.{Gsv, Line, other, Group, Handed as Out}
+use Rattle.groups.specs.Log.{other, Group, Handed as Out}
 use Rattle.groups.specs.Group.{HandedOut}
 use Rattle.groups.specs.Step.{Open, Table, fresh, next, named, answer, after, answers, step}
 use Rattle.groups.proofs.Fold.{answers-at}

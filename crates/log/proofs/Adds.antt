@@ -6,7 +6,7 @@ use mathlib.Core.List.{List, []}
 use mathlib.Core.Bool.{Bool, false}
 use mathlib.Core.Option.{Option}
 use lib.ListN.{take}
-use Rattle.lines.specs.Places.{lineAt, nextPlace}
+use Rattle.lines.specs.Places.{lineAt}
 use Rattle.rows.specs.Line.{lineOf}
 use Rattle.gather.specs.Table.{Gathers}
 use Rattle.gather.specs.declared.line.Outcome.{Outcome}

@@ -3,7 +3,6 @@ use Prim.Native.Nat.{ℕ, _+_, _-_, _≤_}
 use mathlib.Core.Path.{_≡_}
 use mathlib.Core.List.{List, []}
 use mathlib.Core.Bool.{Bool, false}
-use mathlib.Core.Option.{none}
 use lib.ListN.{length, take, drop}
 use Rattle.gsa.specs.Answer.{row}
 use Rattle.sentence.specs.Sentence.{isRmc, isGsa, isGsv, isOther, isRefused}

@@ -1,6 +1,5 @@
 -- `gather_record` meets its contract: what the record is, and what the table does with it. Assumes nothing.
 use native.Mathlib.Omega.{arith}
-use mathlib.Core.Path.{refl, ap, sym}
 use denote.Ref.{now}
 use Rattle.gsv.specs.Answer.{gnss}
 use Rattle.gather.proofs.Tables.{key-below}

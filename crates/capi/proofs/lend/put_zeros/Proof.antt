@@ -1,7 +1,7 @@
 -- `put_zeros` meets its contract. The loop's invariant: the words from `from` to `j` are 0. Assumes nothing.
 use Prim.Native.Nat.{ℕ, _-_, _≤_}
 use native.Mathlib.Omega.{arith}
-use mathlib.Core.Path.{_≡_, refl, ap, sym, _∙_}
+use mathlib.Core.Path.{_≡_, refl, ap, _∙_}
 use lib.ListN.{length, length-set}
 use lib.Seq.{sets}
 use denote.Ref.{now}

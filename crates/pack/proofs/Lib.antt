@@ -2,4 +2,3 @@ pub mod Examples
 pub mod Greedy
 pub mod Rows
 pub mod Few
-pub mod Same

@@ -194,6 +194,3 @@ pub few-entries : (o : Open Satellite) → leavable o ≡ true → length (o .sa
 few-entries o e =
     let p = passes o .0 e in
     omega (arith, four-each entrySize (space (o .view)) (o .sats), p .packed, p .begun, p .open', p .high)
-
-pub are-readable : (o : Open Satellite) → leavable o ≡ true → allReadable (o .sats) ≡ true
-are-readable o e = passes o .0 e .each

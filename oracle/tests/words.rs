@@ -300,3 +300,38 @@ fn what_a_line_did() {
     expected.push(None);
     assert_eq!(did, expected);
 }
+
+/// The number of a constant of include/nmea.h.
+fn of_header(name: &str) -> u32 {
+    let define = format!("#define {name} ");
+    let number = include_str!("../../include/nmea.h")
+        .lines()
+        .find_map(|line| line.strip_prefix(&define))
+        .unwrap_or_else(|| panic!("no {name}"));
+    number.trim_end_matches('u').parse().expect("a number")
+}
+
+/// What the oracle goes by is what a caller in C does.
+#[test]
+fn constants_of_the_header() {
+    for (name, number) in [
+        ("NMEA_WORDS", words(&[]).len()),
+        ("NMEA_ROWS", ROWS),
+        ("NMEA_ROW", ROW),
+        ("NMEA_TABLE", TABLE),
+        ("NMEA_CELLS", CELLS),
+        ("NMEA_ROW_WORDS", ROW_WORDS),
+        ("NMEA_ABSENT", ABSENT as usize),
+    ] {
+        assert_eq!(of_header(name) as usize, number, "{name}");
+    }
+    for (name, did) in [
+        ("NMEA_NOT_TAKEN", None),
+        ("NMEA_NO_GSV", Some(Gathered::NoGsv)),
+        ("NMEA_NO_RUN", Some(Gathered::NoRun)),
+        ("NMEA_WAITS", Some(Gathered::Waits)),
+        ("NMEA_GROUP", Some(Gathered::Group(System::Gps))),
+    ] {
+        assert_eq!(Gathered::of(of_header(name)), did, "{name}");
+    }
+}

@@ -1,19 +1,15 @@
 //! Holds docs/PROMISES.md and docs/READING.md against the crates: what they
 //! name is defined in the file, or the crate, that stands beside it.
 
+mod repository;
+
 use std::{
     collections::BTreeSet,
     fs,
     path::{Path, PathBuf},
 };
 
-fn repository() -> PathBuf {
-    Path::new(env!("CARGO_MANIFEST_DIR")).join("..")
-}
-
-fn read(file: &str) -> String {
-    fs::read_to_string(repository().join(file)).unwrap_or_else(|error| panic!("{file}: {error}"))
-}
+use repository::{read, root};
 
 /// The names that a file of definitions, proofs or code defines: of the first
 /// word behind such words as `pub`, if a type or a parameter follows it.
@@ -126,7 +122,7 @@ fn what_promises_names_is_defined_where_it_says() {
         }
         let sources: Vec<String> = paths
             .iter()
-            .flat_map(|path| files(&repository().join(path)))
+            .flat_map(|path| files(&root().join(path)))
             .map(|path| {
                 fs::read_to_string(&path).unwrap_or_else(|error| {
                     panic!("docs/PROMISES.md:{at}: {}: {error}", path.display())
@@ -152,7 +148,7 @@ fn what_reading_names_is_defined_where_it_says() {
     // functions, tests and edits, which are named without their files
     let elsewhere: Vec<String> = ["crates", "oracle/tests"]
         .into_iter()
-        .flat_map(|folder| files(&repository().join(folder)))
+        .flat_map(|folder| files(&root().join(folder)))
         .map(
             |path| match path.extension().and_then(|ending| ending.to_str()) {
                 Some("rt" | "rs") => fs::read_to_string(&path).expect("a source"),
@@ -181,7 +177,7 @@ fn what_reading_names_is_defined_where_it_says() {
                 }
                 _ => continue,
             };
-            match fs::read_to_string(repository().join(&path)) {
+            match fs::read_to_string(root().join(&path)) {
                 Ok(source) => beside += &source,
                 Err(_) => wrong.push(format!("docs/READING.md:{at}: there is no {path}")),
             }
@@ -190,7 +186,7 @@ fn what_reading_names_is_defined_where_it_says() {
         for name in names(cells.get(1).copied().unwrap_or_default()) {
             found += 1;
             let name = name.rsplit("::").next().unwrap_or(name);
-            let is_crate = repository().join("crates").join(name).is_dir();
+            let is_crate = root().join("crates").join(name).is_dir();
             if !beside.contains(name) && !elsewhere.contains(name) && !is_crate {
                 wrong.push(format!(
                     "docs/READING.md:{at}: `{name}` is defined in no file beside it"

@@ -2,14 +2,15 @@
 //! must be refused, docs/CONTRACTS.md and the counts of docs/EVIDENCE.md against each
 //! other. The theorems write each contract out by hand, twice.
 
+mod repository;
 mod statements;
 
 use std::{
     collections::{BTreeMap, BTreeSet},
     fs,
-    path::{Path, PathBuf},
 };
 
+use repository::{read, root};
 use statements::{
     contract, disagreements, functions, names, shown, statement, words, Function, Names, Parameter,
     Renamed,
@@ -44,18 +45,10 @@ fn renamed(function: &str) -> &'static [Renamed<'static>] {
     found.map_or(&[], |(_, parts)| parts)
 }
 
-fn repository() -> PathBuf {
-    Path::new(env!("CARGO_MANIFEST_DIR")).join("..")
-}
-
-fn read(file: &str) -> String {
-    fs::read_to_string(repository().join(file)).unwrap_or_else(|error| panic!("{file}: {error}"))
-}
-
 /// The names of a folder's files with an ending, in order, without it.
 /// A folder that is not there has none.
 fn files(folder: &str, ending: &str) -> Vec<String> {
-    let Ok(entries) = fs::read_dir(repository().join(folder)) else {
+    let Ok(entries) = fs::read_dir(root().join(folder)) else {
         return vec![];
     };
     let mut found: Vec<String> = entries
@@ -201,7 +194,7 @@ fn every_theorem_says_the_contract_twice() {
         let file = found.theorems_file();
         let theorem = found.function.theorem();
         // a crate whose file is missing has no theorem either
-        let source = fs::read_to_string(repository().join(&file)).unwrap_or_default();
+        let source = fs::read_to_string(root().join(&file)).unwrap_or_default();
         match statement(&source, &theorem) {
             Err(why) => wrong.push(format!("{file}: `{theorem}`: {why}")),
             Ok(None) => wrong.push(format!(
@@ -412,7 +405,7 @@ fn the_counts_are_those_of_the_evidence() {
     let proved = functions
         .iter()
         .filter(|found| {
-            let source = fs::read_to_string(repository().join(found.theorems_file()));
+            let source = fs::read_to_string(root().join(found.theorems_file()));
             let theorem = found.function.theorem();
             matches!(
                 statement(&source.unwrap_or_default(), &theorem),

@@ -1,13 +1,15 @@
 //! Runs the commands of docs/TRUST.md that have a count, or the word
 //! `nothing`, behind them, and holds what they print to that.
 
-use std::{path::Path, process::Command};
+mod repository;
 
-const DOCUMENT: &str = include_str!("../../docs/TRUST.md");
+use std::process::Command;
+
+use repository::{read, root};
 
 /// The lines of the blocks of commands.
-fn commands() -> Vec<&'static str> {
-    DOCUMENT
+fn commands(document: &str) -> Vec<&str> {
+    document
         .split("```sh\n")
         .skip(1)
         .flat_map(|rest| rest.split("```").next().unwrap_or_default().lines())
@@ -28,10 +30,9 @@ fn held(line: &str) -> Option<(&str, &str)> {
 }
 
 fn printed(command: &str) -> String {
-    let repository = Path::new(env!("CARGO_MANIFEST_DIR")).join("..");
     let output = Command::new("bash")
         .args(["-c", command])
-        .current_dir(repository)
+        .current_dir(root())
         .output()
         .expect("bash");
     assert!(
@@ -44,7 +45,8 @@ fn printed(command: &str) -> String {
 
 #[test]
 fn every_count_is_what_its_command_prints() {
-    let held: Vec<(&str, &str)> = commands().into_iter().filter_map(held).collect();
+    let document = read("docs/TRUST.md");
+    let held: Vec<(&str, &str)> = commands(&document).into_iter().filter_map(held).collect();
     assert!(held.len() > 5, "{} commands with a count", held.len());
     for (command, expected) in held {
         assert_eq!(printed(command), expected, "docs/TRUST.md: {command}");

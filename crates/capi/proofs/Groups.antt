@@ -9,9 +9,9 @@ use mathlib.Core.Option.{Option, none, some, Option·none-ne-some}
 use lib.ListN.{length, take, getD, List·getD-map}
 use Rattle.groups.specs.Log.{Group, Handed}
 use Rattle.groups.specs.Group.{HandedOut}
-use Rattle.gsv.specs.Gsv.{Satellite}
+use Rattle.gsv.specs.Gsv.{Satellite, GsvSentence}
 use Rattle.rows.specs.Key.{keyOf}
-use Rattle.sentence.specs.Sentence.{GsvSentence, answer}
+use Rattle.answer.specs.Sentence.{answer}
 use Rattle.gather.specs.Words.{satsFrom, groupOf}
 use Rattle.gather.specs.Table.{freshTable, rowOf}
 use Rattle.gather.specs.declared.line.Outcome.{Outcome}
@@ -23,26 +23,26 @@ use Rattle.fed.specs.Seen.{seenOf, handedIn, givenBy, givenAt}
 use Rattle.fed.proofs.Accepted.{some-same}
 use Rattle.fed.proofs.Handing.{map-take, hands-list}
 use Rattle.log.proofs.Quiet.{blank-or-read}
-use Rattle.capi.specs.Layout.{zeros}
+use Rattle.words.specs.Part.{zeros}
 use Rattle.capi.specs.Lend.{code, lineCode, gsvIn, rowRoom, entriesWords, rowRead}
 
 -- what stands in the row that a number names
 abbrev pub handedAt : ℕ → List ℕ → Handed Satellite
 handedAt κ t = record { key = κ; group = groupOf (rowOf t κ) }
 
-by-outcome : (o : Outcome) (k κ : ℕ) (t : List ℕ) → (code o k ≡ 4 + κ) ↔ (handedIn o k t ≡ some (handedAt κ t))
+by-outcome : (o : Outcome) (k κ : ℕ) (t : List ℕ) → (code o k ≡ 3 + κ) ↔ (handedIn o k t ≡ some (handedAt κ t))
 by-outcome NoRow k κ t = (λ e. absurd (omega arith), λ e. absurd (Option·none-ne-some _ e))
 by-outcome Nothing k κ t = (λ e. absurd (omega arith), λ e. absurd (Option·none-ne-some _ e))
 by-outcome Waiting k κ t = (λ e. absurd (omega arith), λ e. absurd (Option·none-ne-some _ e))
 by-outcome Complete k κ t = (
   λ e. let z : k ≡ κ = omega arith in ap (λ (n : ℕ). some (handedAt n t)) z,
-  λ e. let z : k ≡ κ = ap (λ (h : Handed Satellite). h .key) (some-same e) in ap (λ (n : ℕ). 4 + n) z,
+  λ e. let z : k ≡ κ = ap (λ (h : Handed Satellite). h .key) (some-same e) in ap (λ (n : ℕ). 3 + n) z,
 )
 
 -- THE THEOREM, of a line that was taken
-pub complete-gives : (x : Option GsvSentence) (a : Gathered) (κ : ℕ) → (lineCode x a ≡ 4 + κ) ↔ (givenBy x a ≡ some (handedAt κ (a .gatherer)))
+pub complete-gives : (x : Option GsvSentence) (a : Gathered) (κ : ℕ) → (lineCode x a ≡ 3 + κ) ↔ (givenBy x a ≡ some (handedAt κ (a .gatherer)))
 complete-gives none a κ = (λ e. absurd (omega arith), λ e. absurd (Option·none-ne-some _ e))
-complete-gives (some s) a κ = by-outcome (a .handed) (keyOf (s .system)) κ (a .gatherer)
+complete-gives (some s) a κ = by-outcome (a .handed) (keyOf s) κ (a .gatherer)
 
 -- the table after a call for each of some lines
 abbrev pub called : List ℕ → List (List ℕ) → List ℕ
@@ -69,7 +69,7 @@ module _ (ls : List (List ℕ)) (i : ℕ) where
   table-is = called-is freshTable (take i ls) ∙ ap (gathered freshTable) (map-take saidOf i ls)
 
   -- THE THEOREM
-  pub calls-hand-out : (κ : ℕ) → (lineCode its itsCall ≡ 4 + κ) ↔ HandedOut (seenOf (saidAll ls)) i (handedAt κ (itsCall .gatherer))
+  pub calls-hand-out : (κ : ℕ) → (lineCode its itsCall ≡ 3 + κ) ↔ HandedOut (seenOf (saidAll ls)) i (handedAt κ (itsCall .gatherer))
   calls-hand-out κ =
       let h = handedAt κ (itsCall .gatherer) in
       let e : givenBy its itsCall ≡ givenAt (saidAll ls) i = λ j. givenBy (its-said j) (gathers (table-is j) (its-said j)) in

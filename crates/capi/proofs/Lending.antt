@@ -9,42 +9,42 @@ use borrow.Author.Tests.{eq-eqb, ne-eqb, le-leb, lt-leb, lt-ltb, le-ltb}
 use lib.Dec.{eqb, leb, ltb}
 use lib.ListN.{length, take, drop, getD, set, replicate, length-set, length-append, length-replicate, length-drop, drop-of-length-le}
 use lib.Seq.{sets, sets-eq}
-use Rattle.gsv.specs.Answer.{gnss}
+use Rattle.gsv.specs.Answer.{gsvSentence}
 use Rattle.gsv.specs.Gsv.{Satellite}
-use Rattle.gsv.specs.Talker.{System, beidou, galileo, gps, glonass, navic, qzss}
-use Rattle.sentence.specs.Sentence.{answer}
-use Rattle.sentence.specs.Answer.{recordOf, gsvSentence, Says}
-use Rattle.sentence.specs.declared.GsvRecord.{GsvRecord}
+use Rattle.gsv.specs.Talker.{systemNumber}
+use Rattle.answer.specs.Sentence.{answer}
+use Rattle.sentence.specs.Answer.{recordOf, Says}
+use Rattle.gsv.specs.declared.GsvRecord.{GsvRecord}
 use Rattle.sentence.specs.declared.ParseResult.{ParseResult}
 use Rattle.sentence.specs.declared.Record.{Record}
 use Rattle.sentence.specs.declared.Record.the-variants.{Rmc, Gsa, Gsv, Other, Refused}
-use Rattle.rows.specs.Key.{keyOf, rowCount}
+use Rattle.rows.specs.Key.{Source, rowFrom, keyOf, rowCount}
 use Rattle.rows.specs.Line.{lineOf}
-use Rattle.gather.specs.Words.{numberOf, satAt, satsFrom}
+use Rattle.gather.specs.Words.{cellCount, numberOf, satAt, satsFrom}
 use Rattle.gather.specs.Table.{tableWords, freshTable, rowOf, Gathers}
 use Rattle.gather.specs.declared.line.Outcome.{Outcome}
 use Rattle.gather.specs.declared.line.Outcome.the-variants.{Complete}
 use Rattle.gather.proofs.Cells.{sets-append, sats-append}
 use Rattle.gather.proofs.Quick.{sats-long}
+use Rattle.gather.proofs.Tables.{number-within}
 use Rattle.fed.specs.Line.{gathers}
-use Rattle.capi.specs.Layout.{zeros, optionWords, entryWords, systemNumber, words}
-use Rattle.capi.specs.Lend.{Freshened, code, lineCode, gsvIn, Taken, takes, GatheredLine, rowRoom, rowHead, entriesWords, rowRead, reads, RowRead, ReadAs}
+use Rattle.words.specs.Part.{zeros, optionWords}
+use Rattle.words.specs.Gsv.{entryWords}
+use Rattle.words.specs.Words.{wordCount, words, into}
+use Rattle.capi.specs.Answer.{done, undone}
+use Rattle.capi.specs.Lend.{Freshened, code, lineCode, gsvIn, Taken, takes, GatheredLine, rowRoom, rowHead, entriesWords, rowRead, reads, RowRead}
+use Rattle.capi.specs.Code.{ReadAs}
 
-pub last-code : (o : Outcome) (k : ℕ) → o ≡ Complete → 4 + k ≡ code o k
+pub last-code : (o : Outcome) (k : ℕ) → o ≡ Complete → 3 + k ≡ code o k
 last-code o k e = sym (ap (λ (o : Outcome). code o k) e)
 
 -- the number of a row's system is that of GSV's word 3
-pub row-system : (s : System) → keyOf s + 1 ≡ systemNumber s
-row-system beidou = refl
-row-system galileo = refl
-row-system gps = refl
-row-system glonass = refl
-row-system navic = refl
-row-system qzss = refl
+pub row-system : (s : Source) → rowFrom s + 1 ≡ systemNumber (s .system)
+row-system s = let h = number-within (s .system) in omega (arith, h .0)
 
 -- a record that is a GSV record
 module _ (x : Record) (t : List ℕ) where
-  pub is-gsv : (g : GsvRecord) (t′ : List ℕ) (o : Outcome) (k n : ℕ) → x ≡ Gsv g → k ≡ keyOf (gnss (g .system))
+  pub is-gsv : (g : GsvRecord) (t′ : List ℕ) (o : Outcome) (k n : ℕ) → x ≡ Gsv g → k ≡ keyOf (gsvSentence g)
       → Gathers t t′ (lineOf (gsvSentence g)) o → n ≡ code o k → Taken (gsvIn (recordOf [] x)) t t′ n
   is-gsv g t′ o k n f ek p en =
       let z : some (gsvSentence g) ≡ gsvIn (recordOf [] x) = sym (ap (λ (y : Record). gsvIn (recordOf [] y)) f) in
@@ -62,65 +62,68 @@ gsv-beside xs (Other k) = refl
 gsv-beside xs (Refused r) = refl
 
 module _ (line out t : List ℕ) where
-  nothing-taken : takes out t ≡ false → GatheredLine line out out t t 0
+  nothing-taken : takes out t ≡ false → GatheredLine line out out t t undone
   nothing-taken e =
       record {
-        words = sym (ap (λ (b : Bool). cond b (words (answer line) ++ drop 40 out) out) e);
+        words = sym (ap (λ (b : Bool). cond b (words (answer line) ++ drop wordCount out) out) e);
         table = sym (ap (λ (b : Bool). cond b (gathers t (gsvIn (answer line)) .gatherer) t) e);
-        says = sym (ap (λ (b : Bool). cond b (lineCode (gsvIn (answer line)) (gathers t (gsvIn (answer line)))) 0) e);
+        says = sym (ap (λ (b : Bool). cond b (lineCode (gsvIn (answer line)) (gathers t (gsvIn (answer line)))) undone) e);
       }
 
-  pub few-words : length out < 40 → GatheredLine line out out t t 0
-  few-words h = nothing-taken (λ j. lt-leb 40 (length out) h j && eqb (length t) tableWords)
+  pub few-words : length out < wordCount → GatheredLine line out out t t undone
+  few-words h = nothing-taken (λ j. lt-leb wordCount (length out) h j && eqb (length t) tableWords)
 
-  pub no-table : 40 ≤ length out → (length t ≡ tableWords → ⊥) → GatheredLine line out out t t 0
-  no-table h n = nothing-taken (λ j. le-leb 40 (length out) h j && ne-eqb (length t) tableWords n j)
+  pub no-table : wordCount ≤ length out → (length t ≡ tableWords → ⊥) → GatheredLine line out out t t undone
+  no-table h n = nothing-taken (λ j. le-leb wordCount (length out) h j && ne-eqb (length t) tableWords n j)
 
-  pub line-taken : (p : ParseResult) (out′ t′ : List ℕ) (r : ℕ) → 40 ≤ length out → length t ≡ tableWords → Says (answer line) p
-      → out′ ≡ words (answer line) ++ drop 40 out → Taken (gsvIn (recordOf [] (p .answer))) t t′ r → GatheredLine line out out′ t t′ r
+  pub line-taken : (p : ParseResult) (out′ t′ : List ℕ) (r : ℕ) → wordCount ≤ length out → length t ≡ tableWords → Says (answer line) p
+      → out′ ≡ into (words (answer line)) out → Taken (gsvIn (recordOf [] (p .answer))) t t′ r → GatheredLine line out out′ t t′ r
   line-taken p out′ t′ r h long s w k =
-      let e : takes out t ≡ true = λ j. le-leb 40 (length out) h j && eq-eqb (length t) tableWords long j in
+      let e : takes out t ≡ true = λ j. le-leb wordCount (length out) h j && eq-eqb (length t) tableWords long j in
       let z : gsvIn (recordOf [] (p .answer)) ≡ gsvIn (answer line) = gsv-beside (take (p .count) (p .satellites)) (p .answer) ∙ ap gsvIn (s .says) in
       record {
-        words = w ∙ sym (ap (λ (b : Bool). cond b (words (answer line) ++ drop 40 out) out) e);
+        words =
+            w
+            ∙ ap (λ (b : Bool). cond b (words (answer line) ++ drop wordCount out) out) (le-leb wordCount (length out) h)
+            ∙ sym (ap (λ (b : Bool). cond b (words (answer line) ++ drop wordCount out) out) e);
         table = k .table ∙ (λ j. gathers t (z j) .gatherer) ∙ sym (ap (λ (b : Bool). cond b (gathers t (gsvIn (answer line)) .gatherer) t) e);
         says =
             k .says
             ∙ (λ j. lineCode (z j) (gathers t (z j)))
-            ∙ sym (ap (λ (b : Bool). cond b (lineCode (gsvIn (answer line)) (gathers t (gsvIn (answer line)))) 0) e);
+            ∙ sym (ap (λ (b : Bool). cond b (lineCode (gsvIn (answer line)) (gathers t (gsvIn (answer line)))) undone) e);
       }
 
 -- a row that is not read, and one that is
 module _ (t : List ℕ) (κ : ℕ) (out : List ℕ) where
-  unread : reads t κ out ≡ false → RowRead t κ out out 0
+  unread : reads t κ out ≡ false → RowRead t κ out out undone
   unread e =
       record {
         words = sym (ap (λ (b : Bool). cond b (rowRead κ (rowOf t κ) ++ drop rowRoom out) out) e);
-        says = sym (ap (λ (b : Bool). cond b 1 0) e);
+        says = sym (ap (λ (b : Bool). cond b done undone) e);
       }
 
-  pub few-row-words : length out < rowRoom → RowRead t κ out out 0
+  pub few-row-words : length out < rowRoom → RowRead t κ out out undone
   few-row-words h =
-      unread (λ j. lt-leb rowRoom (length out) h j && (eqb (length t) tableWords && (ltb κ rowCount && leb (getD (rowOf t κ) 3 0) 36)))
+      unread (λ j. lt-leb rowRoom (length out) h j && (eqb (length t) tableWords && (ltb κ rowCount && leb (getD (rowOf t κ) 3 0) cellCount)))
 
-  pub no-row-table : rowRoom ≤ length out → (length t ≡ tableWords → ⊥) → RowRead t κ out out 0
+  pub no-row-table : rowRoom ≤ length out → (length t ≡ tableWords → ⊥) → RowRead t κ out out undone
   no-row-table h n =
-      unread (λ j. le-leb rowRoom (length out) h j && (ne-eqb (length t) tableWords n j && (ltb κ rowCount && leb (getD (rowOf t κ) 3 0) 36)))
+      unread (λ j. le-leb rowRoom (length out) h j && (ne-eqb (length t) tableWords n j && (ltb κ rowCount && leb (getD (rowOf t κ) 3 0) cellCount)))
 
-  pub no-such-row : rowRoom ≤ length out → length t ≡ tableWords → rowCount ≤ κ → RowRead t κ out out 0
+  pub no-such-row : rowRoom ≤ length out → length t ≡ tableWords → rowCount ≤ κ → RowRead t κ out out undone
   no-such-row h long n =
-      unread (λ j. le-leb rowRoom (length out) h j && (eq-eqb (length t) tableWords long j && (le-ltb κ rowCount n j && leb (getD (rowOf t κ) 3 0) 36)))
+      unread (λ j. le-leb rowRoom (length out) h j && (eq-eqb (length t) tableWords long j && (le-ltb κ rowCount n j && leb (getD (rowOf t κ) 3 0) cellCount)))
 
   pub row-taken : (ws out′ : List ℕ) (r : ℕ) → rowRoom ≤ length out → length t ≡ tableWords → κ < rowCount → ws ≡ rowOf t κ
       → ReadAs ws κ out out′ r → RowRead t κ out out′ r
   row-taken ws out′ r h long n e k =
-      let b : leb (getD ws 3 0) 36 ≡ reads t κ out =
-      ap (λ (l : List ℕ). leb (getD l 3 0) 36) e
-      ∙ sym (λ j. le-leb rowRoom (length out) h j && (eq-eqb (length t) tableWords long j && (lt-ltb κ rowCount n j && leb (getD (rowOf t κ) 3 0) 36)))
+      let b : leb (getD ws 3 0) cellCount ≡ reads t κ out =
+      ap (λ (l : List ℕ). leb (getD l 3 0) cellCount) e
+      ∙ sym (λ j. le-leb rowRoom (length out) h j && (eq-eqb (length t) tableWords long j && (lt-ltb κ rowCount n j && leb (getD (rowOf t κ) 3 0) cellCount)))
       in
       record {
         words = k .words ∙ (λ j. cond (b j) (rowRead κ (e j) ++ drop rowRoom out) out);
-        says = k .says ∙ (λ j. cond (b j) 1 0);
+        says = k .says ∙ (λ j. cond (b j) done undone);
       }
 
 -- words stored one after the other
@@ -143,7 +146,7 @@ option-two (some n) = refl
 pub two-long : (l : List ℕ) (i a j b : ℕ) → length (set (set l i a) j b) ≡ length l
 two-long l i a j b = length-set (set l i a) j b ∙ length-set l i a
 
-pub entry-room : (l : List ℕ) (i id k : ℕ) → i < 36 → 293 ≤ length l → k ≤ 6 → 5 + i * 8 + k + 2 ≤ length (set (set l (5 + i * 8) 1) (5 + i * 8 + 1) id)
+pub entry-room : (l : List ℕ) (i id k : ℕ) → i < cellCount → rowRoom ≤ length l → k ≤ 6 → 5 + i * 8 + k + 2 ≤ length (set (set l (5 + i * 8) 1) (5 + i * 8 + 1) id)
 entry-room l i id k h r f = omega (arith, two-long l (5 + i * 8) 1 (5 + i * 8 + 1) id)
 
 -- an entry's eight words: two, and three times two
@@ -178,7 +181,7 @@ cleared-next (x ∷ t) (suc i) h =
     let z : suc (i + 1) ≡ suc i + 1 = omega arith in
     ap (λ (l : List ℕ). 0 ∷ l) (cleared-next t i (omega arith)) ∙ ap (cleared (x ∷ t)) z
 
-pub all-cleared : (t : List ℕ) (i : ℕ) → length t ≡ tableWords → i ≡ tableWords → Freshened t (cleared t i) 1
+pub all-cleared : (t : List ℕ) (i : ℕ) → length t ≡ tableWords → i ≡ tableWords → Freshened t (cleared t i) done
 all-cleared t i long e =
     let b : eqb (length t) tableWords ≡ true = eq-eqb (length t) tableWords long in
     record {
@@ -187,13 +190,13 @@ all-cleared t i long e =
           ∙ ap (λ (l : List ℕ). freshTable ++ l) (drop-of-length-le t {i = tableWords} (omega arith))
           ∙ append-nil freshTable
           ∙ sym (ap (λ (b : Bool). cond b freshTable t) b);
-      says = sym (ap (λ (b : Bool). cond b 1 0) b);
+      says = sym (ap (λ (b : Bool). cond b done undone) b);
     }
 
-pub not-cleared : (t : List ℕ) → (length t ≡ tableWords → ⊥) → Freshened t t 0
+pub not-cleared : (t : List ℕ) → (length t ≡ tableWords → ⊥) → Freshened t t undone
 not-cleared t n =
     let b : eqb (length t) tableWords ≡ false = ne-eqb (length t) tableWords n in
-    record { table = sym (ap (λ (b : Bool). cond b freshTable t) b); says = sym (ap (λ (b : Bool). cond b 1 0) b) }
+    record { table = sym (ap (λ (b : Bool). cond b freshTable t) b); says = sym (ap (λ (b : Bool). cond b done undone) b) }
 
 -- a row is read: its head, its entries one by one, and zeros
 entry-eight : (s : Satellite) → length (entryWords (some s)) ≡ 8
@@ -246,21 +249,21 @@ one-zero l m from j h e =
     one-more (suc k) = let z : suc (k + 1) ≡ suc k + 1 = omega arith in ap (λ (r : List ℕ). 0 ∷ r) (one-more k) ∙ ap zeros z
 
 module _ (κ : ℕ) (ws out : List ℕ) (room : rowRoom ≤ length out) where
-  pub too-many : 36 < getD ws 3 0 → ReadAs ws κ out out 0
+  pub too-many : cellCount < getD ws 3 0 → ReadAs ws κ out out undone
   too-many h =
-      let e : leb (getD ws 3 0) 36 ≡ false = lt-leb (getD ws 3 0) 36 h in
+      let e : leb (getD ws 3 0) cellCount ≡ false = lt-leb (getD ws 3 0) cellCount h in
       record {
         words = sym (ap (λ (b : Bool). cond b (rowRead κ ws ++ drop rowRoom out) out) e);
-        says = sym (ap (λ (b : Bool). cond b 1 0) e);
+        says = sym (ap (λ (b : Bool). cond b done undone) e);
       }
 
-  pub all-read : (a b c : List ℕ) → getD ws 3 0 ≤ 36 → a ≡ sets out 0 (rowHead κ ws) → b ≡ sets a 5 (entriesWords (satsFrom 0 (getD ws 3 0) ws))
-      → c ≡ sets b (5 + getD ws 3 0 * 8) (zeros (rowRoom - (5 + getD ws 3 0 * 8))) → ReadAs ws κ out c 1
+  pub all-read : (a b c : List ℕ) → getD ws 3 0 ≤ cellCount → a ≡ sets out 0 (rowHead κ ws) → b ≡ sets a 5 (entriesWords (satsFrom 0 (getD ws 3 0) ws))
+      → c ≡ sets b (5 + getD ws 3 0 * 8) (zeros (rowRoom - (5 + getD ws 3 0 * 8))) → ReadAs ws κ out c done
   all-read a b c few ea eb ec =
       let m = getD ws 3 0 in
       let es = entriesWords (satsFrom 0 m ws) in
       let zs = zeros (rowRoom - (5 + m * 8)) in
-      let test : leb m 36 ≡ true = le-leb m 36 few in
+      let test : leb m cellCount ≡ true = le-leb m cellCount few in
       let n : length es ≡ m * 8 = wide m ws in
       let long : 0 + length (rowRead κ ws) ≡ rowRoom =
       omega (arith, length-append (rowHead κ ws) (es ++ zs), length-append es zs, length-replicate {A = ℕ} (rowRoom - (5 + m * 8)) 0)
@@ -275,5 +278,5 @@ module _ (κ : ℕ) (ws out : List ℕ) (room : rowRoom ≤ length out) where
             ∙ sets-eq (rowRead κ ws) out 0 (omega arith)
             ∙ ap (λ (k : ℕ). rowRead κ ws ++ drop k out) long
             ∙ sym (ap (λ (b : Bool). cond b (rowRead κ ws ++ drop rowRoom out) out) test);
-        says = sym (ap (λ (b : Bool). cond b 1 0) test);
+        says = sym (ap (λ (b : Bool). cond b done undone) test);
       }

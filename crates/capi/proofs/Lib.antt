@@ -1,4 +1,3 @@
-pub mod Signs
 pub mod Says
 pub mod Walks
 pub mod Lending

@@ -1,26 +1,33 @@
 -- What follows from the code's answer to a line: its refusal's number, and its words. Only a GSA record has satellites, and its
 -- cells are they with zeros after them. Assumes nothing.
-use Prim.Native.Nat.{ℕ, zero, suc, _-_, _≤_}
+use Prim.Native.Nat.{ℕ, zero, suc, _-_, _≤_, _<_}
 use native.Mathlib.Omega.{arith}
 use mathlib.Core.Logic.{_↔_}
 use mathlib.Core.Path.{_≡_, refl, ap, sym, _∙_, subst}
 use mathlib.Core.List.{List, [], _∷_, _++_}
+use mathlib.Core.Bool.{Bool, false, cond}
 use mathlib.Core.Option.{Option, none, some}
-use lib.ListN.{length, take, replicate, getD}
+use borrow.Author.Tests.{le-leb, lt-leb}
+use lib.Dec.{leb}
+use lib.ListN.{length, take, drop, replicate}
 use Rattle.frame.specs.Answer.{talkerBytes}
 use Rattle.gsa.specs.Gsa.{kept}
 use Rattle.gsa.specs.Answer.{row, system, dopsOf}
 use Rattle.frame.specs.Refused.{Refused}
-use Rattle.sentence.specs.Sentence.{Answer, isRmc, isGsa, isGsv, isOther, isRefused, verdictOf, answer}
-use Rattle.sentence.proofs.Numbered.{Numbered, numbered as numbered-line}
+use Rattle.answer.specs.Sentence.{Answer, isRmc, isGsa, isGsv, isOther, isRefused, verdictOf, answer}
+use Rattle.answer.proofs.Numbered.{Numbered, numbered as numbered-line}
 use Rattle.sentence.specs.Answer.{recordOf, Says, Beside, verdict}
 use Rattle.sentence.specs.declared.Verdict.{Verdict}
 use Rattle.sentence.specs.declared.Record.{Record}
 use Rattle.sentence.specs.declared.Record.the-variants.{Rmc as ARmc, Gsa as AGsa, Gsv as AGsv, Other as AnOther, Refused as ARefusal}
 use Rattle.sentence.specs.declared.GsaRecord.{GsaRecord}
 use Rattle.sentence.specs.declared.ParseResult.{ParseResult}
-use Rattle.capi.specs.Layout.{refusalNumber, zeros, padded, gsaHead, gsaTail, words}
-use Rattle.capi.specs.Answer.{gsaRow, recordWords}
+use Rattle.words.specs.Part.{zeros, padded}
+use Rattle.words.specs.Gsa.{gsaHead, gsaTail}
+use Rattle.words.specs.Words.{wordCount, refusalNumber, words, into}
+use Rattle.words.specs.Answer.{gsaRow}
+use Rattle.capi.specs.Answer.{done, undone, Answered}
+use Rattle.capi.specs.Code.{recordWords}
 
 -- a verdict's number
 abbrev pub numbered : Option Refused → ℕ
@@ -70,33 +77,9 @@ padded-after zero k l = refl
 padded-after (suc n) k [] = padded-zeros (suc n) k
 padded-after (suc n) k (x ∷ l) = ap (λ (r : List ℕ). x ∷ r) (padded-after n k l)
 
--- the cells read one by one
-unfoldable from : ℕ → ℕ → List ℕ → List ℕ
-from zero k l = []
-from (suc n) k l = getD l k 0 ∷ from n (suc k) l
-
-from-none : (n k : ℕ) → from n k [] ≡ padded n []
-unfolding from
-from-none zero k = refl
-from-none (suc n) k = ap (λ (r : List ℕ). 0 ∷ r) (from-none n (suc k))
-
-from-next : (n k x : ℕ) (l : List ℕ) → from n (suc k) (x ∷ l) ≡ from n k l
-unfolding from
-from-next zero k x l = refl
-from-next (suc n) k x l = ap (λ (r : List ℕ). getD l k 0 ∷ r) (from-next n (suc k) x l)
-
-from-first : (n : ℕ) (l : List ℕ) → from n 0 l ≡ padded n l
-unfolding from
-from-first zero l = refl
-from-first (suc n) [] = ap (λ (r : List ℕ). 0 ∷ r) (from-none n 1)
-from-first (suc n) (x ∷ l) = ap (λ (r : List ℕ). x ∷ r) (from-next n 0 x l ∙ from-first n l)
-
-pub cells-read : (l : List ℕ) → (getD l 0 0 ∷ getD l 1 0 ∷ getD l 2 0 ∷ getD l 3 0 ∷ getD l 4 0 ∷ getD l 5 0 ∷ getD l 6 0 ∷ getD l 7 0 ∷ getD l 8 0 ∷ getD l 9 0 ∷ getD l 10 0 ∷ getD l 11 0 ∷ getD l 12 0 ∷ getD l 13 0 ∷ getD l 14 0 ∷ getD l 15 0 ∷ getD l 16 0 ∷ getD l 17 0 ∷ []) ≡ padded 18 l
-unfolding from
-cells-read l = from-first 18 l
-
 -- a GSA record: its cells are its satellites with zeros after them
-gsa-words : (cells : List ℕ) (count : ℕ) (xs : List ℕ) (g : GsaRecord) → cells ≡ row xs → count ≡ length xs → gsaRow cells count g ≡ words (recordOf xs (AGsa g))
+gsa-words : (cells : List ℕ) (count : ℕ) (xs : List ℕ) (g : GsaRecord) → cells ≡ row xs → count ≡ length xs
+    → gsaRow (g .talker) (g .head) cells count ≡ words (recordOf xs (AGsa g))
 gsa-words cells count xs g e f =
     let head : List ℕ = gsaHead (talkerBytes (g .talker)) (g .head .mode) (g .head .fix) (system (g .head .system)) (dopsOf (g .head .dops)) in
     ap (λ (n : ℕ). head ++ gsaTail n cells) f
@@ -113,3 +96,21 @@ pub words-are : {a : Answer} {p : ParseResult} → Says a p → recordWords (p .
 words-are {a} {p} s =
     by-record (p .satellites) (p .count) (take (p .count) (p .satellites)) (p .answer) (subst (λ (x : Answer). Beside x (p .satellites) (p .count)) (sym (s .says)) (s .beside))
     ∙ ap words (s .says)
+
+-- the whole answer in a buffer
+module _ (line out : List ℕ) where
+  pub no-room : length out < wordCount → Answered line out out undone
+  no-room h =
+      let e : leb wordCount (length out) ≡ false = lt-leb wordCount (length out) h in
+      record {
+        words = sym (ap (λ (b : Bool). cond b (words (answer line) ++ drop wordCount out) out) e);
+        says = sym (ap (λ (b : Bool). cond b done undone) e);
+      }
+
+  pub written : (p : ParseResult) (out′ : List ℕ) → wordCount ≤ length out → Says (answer line) p
+      → out′ ≡ into (recordWords (p .satellites) (p .count) (p .answer)) out → Answered line out out′ done
+  written p out′ h s w =
+      record {
+        words = w ∙ ap (λ (ws : List ℕ). into ws out) (words-are s);
+        says = sym (ap (λ (b : Bool). cond b done undone) (le-leb wordCount (length out) h));
+      }

@@ -6,32 +6,35 @@ use mathlib.Core.Bool.{Bool, _&&_, cond}
 use mathlib.Core.Option.{Option, none, some}
 use lib.Dec.{eqb, leb, ltb}
 use lib.ListN.{length, drop, getD}
-use Rattle.gsv.specs.Gsv.{Satellite}
-use Rattle.sentence.specs.Sentence.{Answer, GsvSentence, answer}
+use Rattle.gsv.specs.Gsv.{Satellite, GsvSentence}
+use Rattle.answer.specs.Sentence.{Answer, answer}
 use Rattle.rows.specs.Key.{keyOf, rowCount}
-use Rattle.gather.specs.Words.{satsFrom}
+use Rattle.gather.specs.Words.{cellCount, satsFrom}
 use Rattle.gather.specs.Table.{tableWords, freshTable, rowOf}
 use Rattle.gather.specs.declared.line.Outcome.{Outcome}
 use Rattle.gather.specs.declared.line.Outcome.the-variants.{NoRow, Nothing, Waiting, Complete}
 use Rattle.fed.specs.Line.{read, gsvOf, Gathered, gathers}
-use Rattle.capi.specs.Layout.{zeros, entryWords, words}
+use Rattle.words.specs.Part.{zeros}
+use Rattle.words.specs.Gsv.{entryWords}
+use Rattle.words.specs.Words.{wordCount, words}
+use Rattle.capi.specs.Answer.{done, undone}
 
 -- `nmea_fresh`: a table of another length is left as it is
 pub record Freshened (t t′ : List ℕ) (r : ℕ) : Type 0 where
   pub table : t′ ≡ cond (eqb (length t) tableWords) freshTable t
-  pub says : r ≡ cond (eqb (length t) tableWords) 1 0
+  pub says : r ≡ cond (eqb (length t) tableWords) done undone
 
--- 2 no run stands, 3 another line is waited for, 4 and the row's number: that row is a group
+-- 1 no run stands, 2 another line is waited for, 3 and the row's number: that row is a group
 abbrev pub code : Outcome → ℕ → ℕ
-code NoRow κ = 0
-code Nothing κ = 2
-code Waiting κ = 3
-code Complete κ = 4 + κ
+code NoRow κ = 1
+code Nothing κ = 1
+code Waiting κ = 2
+code Complete κ = 3 + κ
 
--- 1: no accepted GSV line
+-- 0: no accepted GSV line
 abbrev pub lineCode : Option GsvSentence → Gathered → ℕ
-lineCode none a = 1
-lineCode (some s) a = code (a .handed) (keyOf (s .system))
+lineCode none a = 0
+lineCode (some s) a = code (a .handed) (keyOf s)
 
 abbrev pub gsvIn : Answer → Option GsvSentence
 gsvIn a = gsvOf (read a)
@@ -43,17 +46,23 @@ pub record Taken (x : Option GsvSentence) (t t′ : List ℕ) (r : ℕ) : Type 0
 
 -- `nmea_gather`: room for the words of an answer, and a table
 abbrev pub takes : List ℕ → List ℕ → Bool
-takes out t = leb 40 (length out) && eqb (length t) tableWords
+takes out t = leb wordCount (length out) && eqb (length t) tableWords
 
 -- then the words are the answer's and the table is as the line leaves it; else nothing is written
 pub record GatheredLine (line out out′ t t′ : List ℕ) (r : ℕ) : Type 0 where
-  pub words : out′ ≡ cond (takes out t) (words (answer line) ++ drop 40 out) out
+  pub words : out′ ≡ cond (takes out t) (words (answer line) ++ drop wordCount out) out
   pub table : t′ ≡ cond (takes out t) (gathers t (gsvIn (answer line)) .gatherer) t
-  pub says : r ≡ cond (takes out t) (lineCode (gsvIn (answer line)) (gathers t (gsvIn (answer line)))) 0
+  pub says : r ≡ cond (takes out t) (lineCode (gsvIn (answer line)) (gathers t (gsvIn (answer line)))) undone
 
--- the words of a row that is read: five, and eight for each of 36 entries
+-- the words of a row that is read: its head, and an entry for each cell
+abbrev pub headWords : ℕ
+headWords = 5
+
+abbrev pub entryLong : ℕ
+entryLong = 8
+
 abbrev pub rowRoom : ℕ
-rowRoom = 293
+rowRoom = headWords + cellCount * entryLong
 
 -- row 0 to 4: the system's number, n, the number waited for, in view, and the count
 abbrev pub rowHead : ℕ → List ℕ → List ℕ
@@ -66,18 +75,13 @@ entriesWords (s ∷ ss) = entryWords (some s) ++ entriesWords ss
 
 -- and 0 behind them
 abbrev pub rowRead : ℕ → List ℕ → List ℕ
-rowRead κ ws = rowHead κ ws ++ (entriesWords (satsFrom 0 (getD ws 3 0) ws) ++ zeros (rowRoom - (5 + getD ws 3 0 * 8)))
+rowRead κ ws = rowHead κ ws ++ (entriesWords (satsFrom 0 (getD ws 3 0) ws) ++ zeros (rowRoom - (headWords + getD ws 3 0 * entryLong)))
 
--- `nmea_row`: room, a table, a row that it has, and at most 36 entries in it
+-- `nmea_row`: room, a table, a row that it has, and no more entries in it than cells
 abbrev pub reads : List ℕ → ℕ → List ℕ → Bool
 reads t κ out =
-    leb rowRoom (length out) && (eqb (length t) tableWords && (ltb κ rowCount && leb (getD (rowOf t κ) 3 0) 36))
+    leb rowRoom (length out) && (eqb (length t) tableWords && (ltb κ rowCount && leb (getD (rowOf t κ) 3 0) cellCount))
 
 pub record RowRead (t : List ℕ) (κ : ℕ) (out out′ : List ℕ) (r : ℕ) : Type 0 where
   pub words : out′ ≡ cond (reads t κ out) (rowRead κ (rowOf t κ) ++ drop rowRoom out) out
-  pub says : r ≡ cond (reads t κ out) 1 0
-
--- for the code: the same of a row's words, where there is room
-pub record ReadAs (ws : List ℕ) (κ : ℕ) (out out′ : List ℕ) (r : ℕ) : Type 0 where
-  pub words : out′ ≡ cond (leb (getD ws 3 0) 36) (rowRead κ ws ++ drop rowRoom out) out
-  pub says : r ≡ cond (leb (getD ws 3 0) 36) 1 0
+  pub says : r ≡ cond (reads t κ out) done undone

@@ -1,4 +1,4 @@
-pub mod Layout
 pub mod Answer
 pub mod Totals
 pub mod Lend
+pub mod Code

@@ -6,42 +6,75 @@ ghost use Prim.Native.Nat.{_+_, _-_, _*_, _≤_, _<_};
 ghost use lib.ListN.{length};
 ghost use lib.Seq.{sets};
 ghost use Rattle.sentence.specs.Answer.{recordOf};
-ghost use Rattle.gather.specs.Words.{numberOf, satAt, satsFrom};
-ghost use Rattle.capi.specs.Layout.{zeros, optionWords, entryWords};
-ghost use Rattle.capi.specs.Lend.{Freshened, code, gsvIn, Taken, GatheredLine, rowHead, entriesWords, RowRead, ReadAs};
+ghost use Rattle.rows.specs.Key.{rowCount};
+ghost use Rattle.gather.specs.Words.{rowWords, cellCount, numberOf, satAt, satsFrom};
+ghost use Rattle.words.specs.Part.{zeros, optionWords};
+ghost use Rattle.words.specs.Gsv.{entryWords};
+ghost use Rattle.capi.specs.Lend.{Freshened, code, gsvIn, Taken, GatheredLine, rowRoom, rowHead, entriesWords, RowRead};
+ghost use Rattle.capi.specs.Code.{ReadAs};
+use crate::DONE;
+use crate::UNDONE;
 use gather::lent;
 use gather::line::Outcome;
 use sentence::Record;
+use words::AZIMUTH;
+use words::ELEVATION;
+use words::ENTRY_WORDS;
+use words::SATELLITE;
+use words::SIGNAL;
+use words::WORDS;
 
-// How many words a row has that is read: five, and eight for each of 36 entries.
-const ROW_WORDS: usize = 293;
+// Where in the words of a row that is read its system stands, n, the number waited for, the in-view count, the count of entries, and an
+// entry for each cell.
+const SYSTEM: usize = 0;
 
-// Makes a table fresh: every word 0, and 1. A table of another length is left as it is, and 0.
+const SENTENCES: usize = 1;
+
+const WAITS_FOR: usize = 2;
+
+const VIEW: usize = 3;
+
+const COUNT: usize = 4;
+
+const ENTRIES: usize = 5;
+
+const ROW_WORDS: usize = ENTRIES + lent::CELLS * ENTRY_WORDS;
+
+// What a line that is taken did: it is no accepted GSV line; no run stands; its run waits; and, with the row's number, that row is a group.
+const NO_GSV: u32 = 0;
+
+const NO_RUN: u32 = 1;
+
+const WAITS: u32 = 2;
+
+const GROUP: u32 = 3;
+
+// Makes a table fresh: every word 0. A table of another length is left as it is, and 255.
 #[no_mangle]
 pub extern "C" fn nmea_fresh(table: &mut [u32]) -> u32
     ensures { λ r. ⌜ Freshened (now (table .entry)) (now (table .exit)) r ⌝ }
 {
     if table.len() != gather::table::WORDS {
-        return 0;
+        return UNDONE;
     }
     let mut i = 0;
     while i < gather::table::WORDS {
         table[i] = 0;
         i += 1;
     }
-    1
+    DONE
 }
 
 // What a line did to its row, as a number.
 fn row_code(o: Outcome, row: usize) -> u32
-    requires { ⌜ row < 6 ⌝ }
+    requires { ⌜ row < rowCount ⌝ }
     ensures { λ r. ⌜ r ≡ code o row ⌝ }
 {
     match o {
-        Outcome::NoRow => 0,
-        Outcome::Nothing => 2,
-        Outcome::Waiting => 3,
-        Outcome::Complete => 4 + row as u32,
+        Outcome::NoRow => NO_RUN,
+        Outcome::Nothing => NO_RUN,
+        Outcome::Waiting => WAITS,
+        Outcome::Complete => GROUP + row as u32,
     }
 }
 
@@ -50,34 +83,33 @@ fn gather_record(answer: Record, table: &mut [u32]) -> u32
     ensures { λ r. ⌜ Taken (gsvIn (recordOf [] answer)) (now (table .entry)) (now (table .exit)) r ⌝ }
 {
     match answer {
-        Record::Rmc(_) => 1,
-        Record::Gsa(_) => 1,
+        Record::Rmc(_) => NO_GSV,
+        Record::Gsa(_) => NO_GSV,
         Record::Gsv(g) => {
-            let system = g.system;
-            let row = gather::table::row_of(system);
+            let talker = g.talker;
+            let row = gather::table::row_of(gather::table::source_of(talker));
             let o = gather::table::gather(&mut *table, g);
             row_code(o, row)
         }
-        Record::Other(_) => 1,
-        Record::Refused(_) => 1,
+        Record::Other(_) => NO_GSV,
+        Record::Refused(_) => NO_GSV,
     }
 }
 
-// Takes a line: its whole answer in the first 40 words, and what it does to the table. 0: too few words or a table of another length, and
-// nothing written; 1: no accepted GSV line; 2: no run stands; 3: its run waits; 4 and the row's number: that row is a group.
+// Takes a line: its whole answer in the first 40 words, and what it does to the table, as a number. 255: too few words or a table of
+// another length, and nothing written.
 #[no_mangle]
 pub extern "C" fn nmea_gather(line: &[u8], out: &mut [u64], table: &mut [u32]) -> u32
     ensures { λ r. ⌜ GatheredLine (now (line .entry)) (now (out .entry)) (now (out .exit)) (now (table .entry)) (now (table .exit)) r × (now (line .exit) ≡ now (line .entry)) ⌝ }
 {
-    if out.len() < crate::WORDS {
-        return 0;
+    if out.len() < WORDS {
+        return UNDONE;
     }
     if table.len() != gather::table::WORDS {
-        return 0;
+        return UNDONE;
     }
     let p = sentence::parse_bytes(line);
-    let w = crate::words_of(p);
-    crate::put(&mut *out, w);
+    crate::put(&mut *out, p);
     let answer = p.answer;
     gather_record(answer, &mut *table)
 }
@@ -98,37 +130,37 @@ fn put_option(out: &mut [u64], at: usize, x: u32)
 
 // The entry in cell i.
 fn put_entry(out: &mut [u64], row: &[u32], i: usize)
-    requires { ⌜ (length (now row) ≡ 148) × (i < 36) × (293 ≤ length (now out)) ⌝ }
+    requires { ⌜ (length (now row) ≡ rowWords) × (i < cellCount) × (rowRoom ≤ length (now out)) ⌝ }
     ensures { λ _. ⌜ now (out .exit) ≡ sets (now (out .entry)) (5 + i * 8) (entryWords (some (satAt (now (row .entry)) i))) ⌝ }
 {
-    let at = 4 + i * 4;
+    let at = lent::HEAD + i * lent::CELL;
     let id = row[at];
     let elevation = row[at + 1];
     let azimuth = row[at + 2];
     let signal = row[at + 3];
-    let to = 5 + i * 8;
+    let to = ENTRIES + i * ENTRY_WORDS;
     out[to] = 1;
-    out[to + 1] = id as u64;
-    put_option(&mut *out, to + 2, elevation);
-    put_option(&mut *out, to + 4, azimuth);
-    put_option(&mut *out, to + 6, signal);
+    out[to + SATELLITE] = id as u64;
+    put_option(&mut *out, to + ELEVATION, elevation);
+    put_option(&mut *out, to + AZIMUTH, azimuth);
+    put_option(&mut *out, to + SIGNAL, signal);
 }
 
 // A row's system, n, the number waited for, in view and count.
 fn put_head(out: &mut [u64], row: &[u32], number: usize)
-    requires { ⌜ (length (now row) ≡ 148) × (number < 6) × (293 ≤ length (now out)) ⌝ }
+    requires { ⌜ (length (now row) ≡ rowWords) × (number < rowCount) × (rowRoom ≤ length (now out)) ⌝ }
     ensures { λ _. ⌜ now (out .exit) ≡ sets (now (out .entry)) 0 (rowHead number (now (row .entry))) ⌝ }
 {
-    out[0] = number as u64 + 1;
-    out[1] = row[0] as u64;
-    out[2] = row[1] as u64;
-    out[3] = row[2] as u64;
-    out[4] = row[3] as u64;
+    out[SYSTEM] = number as u64 + 1;
+    out[SENTENCES] = row[lent::N] as u64;
+    out[WAITS_FOR] = row[lent::NEXT] as u64;
+    out[VIEW] = row[lent::VIEW] as u64;
+    out[COUNT] = row[lent::COUNT] as u64;
 }
 
 // The entries in the first count of its cells.
 fn put_entries(out: &mut [u64], row: &[u32], count: usize)
-    requires { ⌜ (length (now row) ≡ 148) × (count ≤ 36) × (293 ≤ length (now out)) ⌝ }
+    requires { ⌜ (length (now row) ≡ rowWords) × (count ≤ cellCount) × (rowRoom ≤ length (now out)) ⌝ }
     ensures { λ _. ⌜ now (out .exit) ≡ sets (now (out .entry)) 5 (entriesWords (satsFrom 0 count (now (row .entry)))) ⌝ }
 {
     let mut i = 0;
@@ -140,8 +172,8 @@ fn put_entries(out: &mut [u64], row: &[u32], count: usize)
 
 // Zeros from a word on, to the last of a row.
 fn put_zeros(out: &mut [u64], from: usize)
-    requires { ⌜ (from ≤ 293) × (293 ≤ length (now out)) ⌝ }
-    ensures { λ _. ⌜ now (out .exit) ≡ sets (now (out .entry)) from (zeros (293 - from)) ⌝ }
+    requires { ⌜ (from ≤ rowRoom) × (rowRoom ≤ length (now out)) ⌝ }
+    ensures { λ _. ⌜ now (out .exit) ≡ sets (now (out .entry)) from (zeros (rowRoom - from)) ⌝ }
 {
     let mut j = from;
     while j < ROW_WORDS {
@@ -152,36 +184,35 @@ fn put_zeros(out: &mut [u64], from: usize)
 
 // The words of a row, where there is room for them.
 fn read_row(row: &[u32], number: usize, out: &mut [u64]) -> u32
-    requires { ⌜ (length (now row) ≡ 148) × (number < 6) × (293 ≤ length (now out)) ⌝ }
+    requires { ⌜ (length (now row) ≡ rowWords) × (number < rowCount) × (rowRoom ≤ length (now out)) ⌝ }
     ensures { λ r. ⌜ ReadAs (now (row .entry)) number (now (out .entry)) (now (out .exit)) r ⌝ }
 {
-    let many = row[3];
-    if 36 < many {
-        return 0;
+    let count = row[lent::COUNT] as usize;
+    if lent::CELLS < count {
+        return UNDONE;
     }
-    let count = many as usize;
     put_head(&mut *out, row, number);
     put_entries(&mut *out, row, count);
-    put_zeros(&mut *out, 5 + count * 8);
-    1
+    put_zeros(&mut *out, ENTRIES + count * ENTRY_WORDS);
+    DONE
 }
 
-// Reads a row of a table: its system, n, the number waited for, in view, count and 36 entries in the first 293 words, and 1. Too few
-// words, a table of another length, a row that it has not, or one with more than 36 entries: 0, and nothing written.
+// Reads a row of a table: its system, n, the number waited for, in view, count and 36 entries in the first 293 words. Too few words, a
+// table of another length, a row that it has not, or one with more than 36 entries: 255, and nothing written.
 #[no_mangle]
 pub extern "C" fn nmea_row(table: &[u32], row: usize, out: &mut [u64]) -> u32
     ensures { λ r. ⌜ RowRead (now (table .entry)) row (now (out .entry)) (now (out .exit)) r × (now (table .exit) ≡ now (table .entry)) ⌝ }
 {
     if out.len() < ROW_WORDS {
-        return 0;
+        return UNDONE;
     }
     if table.len() != gather::table::WORDS {
-        return 0;
+        return UNDONE;
     }
     if gather::table::ROWS <= row {
-        return 0;
+        return UNDONE;
     }
-    let at = row * 148;
-    let end = at + 148;
+    let at = row * lent::ROW;
+    let end = at + lent::ROW;
     read_row(&table[at..end], row, out)
 }

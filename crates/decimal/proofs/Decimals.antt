@@ -14,7 +14,7 @@ use Rattle.text.specs.Reader.{Parse, miss, refuse, got, char, Number}
 use Rattle.text.specs.Number.{isDigit, leadingDigits, afterDigits, valueFrom, onlyDigits}
 use Rattle.text.proofs.Fixed.{digit-top}
 use Rattle.decimal.specs.Decimal.{Limits, Decimal, withoutSign, text, fromComma, fraction, inLimits, within, orNumber, decimal}
-use Rattle.decimal.specs.Run.{Run, run, atEnd}
+use Rattle.decimal.specs.Code.{Run, run, atEnd}
 use Rattle.decimal.proofs.Power.{under, sum-power}
 use Rattle.decimal.proofs.Runs.{power-more}
 

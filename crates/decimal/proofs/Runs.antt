@@ -12,8 +12,8 @@ use borrow.Author.Tests.{le-leb, lt-leb}
 use Rattle.text.specs.Reader.{Parse, refuse, got, Number}
 use Rattle.text.specs.Number.{isDigit, leadingDigits, afterDigits, valueFrom}
 use Rattle.text.proofs.Places.{here, ended}
-use Rattle.text.specs.Units.{unit}
-use Rattle.decimal.specs.Run.{Run, run}
+use Rattle.text.specs.Code.{unit}
+use Rattle.decimal.specs.Code.{Run, run}
 use Rattle.text.proofs.Fixed.{unit-digit, unit-none, unit-is}
 
 -- what a run answers, where it has `k` digits in all

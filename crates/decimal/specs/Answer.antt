@@ -3,7 +3,7 @@ use mathlib.Core.Option.{Option, none, some}
 use Rattle.text.specs.Reader.{Number}
 use Rattle.text.specs.Placed.{Placed, refused, upto}
 use Rattle.decimal.specs.Decimal.{Decimal, withoutSign}
-use Rattle.decimal.specs.Run.{Run}
+use Rattle.decimal.specs.Code.{Run}
 use Rattle.decimal.specs.Places.{Short, Long}
 use Rattle.decimal.specs.declared.Ran.{Ran}
 use Rattle.decimal.specs.declared.Ran.the-variants.{Over, Is as ARun}

@@ -19,13 +19,13 @@ pub record Limits : Type 0 where
 abbrev pub limits : ℕ → ℕ → ℕ → Limits
 limits a b c = record { all = a; before = b; after = c }
 
--- speed, course, variation, DOP: at most 7 digits in all
+-- speed, course, variation, DOP: at most 7 digits in all, so that the two other limits say no more
 abbrev pub short : Limits
-short = limits 7 7 7
+short = record { all = 7; before = 7; after = 7 }
 
 -- minutes of arc, seconds: 1 to 3 digits before the point, at most 9 after
 abbrev pub long : Limits
-long = limits 12 3 9
+long = record { all = 12; before = 3; after = 9 }
 
 -- the sign, the digits as one number, and how many of them stand after the point
 pub record Decimal : Type 0 where

@@ -1,6 +1,6 @@
 pub mod Decimal
 pub mod Plain
 pub mod Places
-pub mod Run
+pub mod Code
 pub mod Answer
 pub mod Bits

@@ -7,7 +7,7 @@ ghost use lib.ListN.{drop};
 ghost use lib.Ieee.{binary32, binary64, round};
 ghost use Rattle.text.specs.Placed.{Reads};
 ghost use Rattle.decimal.specs.Decimal.{decimal, limits};
-ghost use Rattle.decimal.specs.Run.{run, atEnd};
+ghost use Rattle.decimal.specs.Code.{run, atEnd};
 ghost use Rattle.decimal.specs.Places.{shortDecimal, longDecimal};
 ghost use Rattle.decimal.specs.Bits.{bitsOf};
 ghost use Rattle.decimal.specs.Answer.{ran, found, shortAt, longAt};

@@ -3,7 +3,8 @@ use Prim.Native.Nat.{ℕ}
 use mathlib.Core.Path.{_≡_, refl, ap, _∙_}
 use mathlib.Core.List.{List, [], _∷_}
 use mathlib.Core.Option.{some, Option·none-ne-some}
-use Rattle.sentence.specs.Sentence.{Answer, isRmc, isGsa, isGsv, isOther, isRefused, GsvSentence, answer}
+use Rattle.gsv.specs.Gsv.{GsvSentence}
+use Rattle.answer.specs.Sentence.{Answer, isRmc, isGsa, isGsv, isOther, isRefused, answer}
 use Rattle.fed.specs.Line.{read, saidOf, gsvOf}
 
 pub some-same : {A : Type 0} {x y : A} → some x ≡ some y → x ≡ y

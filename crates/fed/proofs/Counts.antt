@@ -4,7 +4,7 @@ use native.Mathlib.Omega.{arith}
 use mathlib.Core.Path.{_≡_, refl}
 use mathlib.Core.List.{List, [], _∷_}
 use lib.ListN.{length}
-use Rattle.sentence.specs.Sentence.{isRmc, isGsa, isGsv, isOther, isRefused}
+use Rattle.answer.specs.Sentence.{isRmc, isGsa, isGsv, isOther, isRefused}
 use Rattle.fed.specs.Line.{Said, blank, read, isBlank, isAccepted, isRefusal}
 use Rattle.fed.specs.Fed.{onceIf, howMany}
 

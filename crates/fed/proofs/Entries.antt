@@ -10,11 +10,10 @@ use lib.ListN.{length, take, length-append}
 use Rattle.groups.specs.Log.{Gsv, Handed, own, keep, entries}
 use Rattle.groups.specs.Group.{HandedOut}
 use Rattle.groups.specs.Left.{All}
-use Rattle.gsv.specs.Gsv.{Satellite}
+use Rattle.gsv.specs.Gsv.{Satellite, GsvSentence}
 use Rattle.gsv.proofs.Present.{at-most-four}
 use Rattle.rows.specs.Key.{keyOf}
 use Rattle.rows.specs.Line.{lineOf}
-use Rattle.sentence.specs.Sentence.{GsvSentence}
 use Rattle.fed.specs.Line.{Said, gsvOf}
 use Rattle.fed.specs.Seen.{seen, seenOf}
 
@@ -33,7 +32,7 @@ lines-four κ (suc n) (s ∷ ss) = go (gsvOf s) (lines-four κ n ss)
 
     go : (f : Option GsvSentence) → All Four (own κ (take n (seenOf ss))) → All Four (own κ (seen f ∷ take n (seenOf ss)))
     go none a = a
-    go (some x) a = kept (eqb (keyOf (x .system)) κ) x (own κ (take n (seenOf ss))) a
+    go (some x) a = kept (eqb (keyOf x) κ) x (own κ (take n (seenOf ss))) a
 
 last-four : (a b : List (Gsv Satellite)) → All Four (a ++ b) → All Four b
 last-four [] b h = h

@@ -10,10 +10,9 @@ use Rattle.groups.specs.Group.{HandedOut}
 use Rattle.groups.specs.Step.{Open, Table, fresh, next, named, answer, answers, step}
 use Rattle.groups.specs.Count.{Many}
 use Rattle.groups.proofs.Counted.{someCount, handed-count}
-use Rattle.gsv.specs.Gsv.{Satellite}
+use Rattle.gsv.specs.Gsv.{Satellite, GsvSentence}
 use Rattle.rows.specs.Key.{keyOf}
 use Rattle.rows.specs.Line.{lineOf}
-use Rattle.sentence.specs.Sentence.{GsvSentence}
 use Rattle.gather.specs.Put.{toldBy}
 use Rattle.gather.specs.Table.{tableWords, freshTable, tableOf, tableAfter}
 use Rattle.gather.specs.declared.line.Outcome.{Outcome}
@@ -42,7 +41,7 @@ groups-are t (l ∷ ls) s = go (gsvOf (saidOf l)) refl (λ u su. groups-are u ls
     go none q ih = let e = ih t s in omega arith
     go (some x) q ih =
         let w = accepted-as l x q in
-        let κ = keyOf (x .system) in
+        let κ = keyOf x in
         let o = step (tableOf t κ) (lineOf x) in
         let u = tableAfter t (lineOf x) in
         ap (λ (a : Outcome). onceIf (isHanded a) + groupsOf u (saidAll ls)) (table-says t l x w s)

@@ -11,10 +11,9 @@ use Rattle.groups.specs.Group.{HandedOut}
 use Rattle.groups.specs.Step.{Open, Table, fresh, next, named, answer, after, answers, step}
 use Rattle.groups.proofs.Fold.{answers-at}
 use Rattle.groups.proofs.Handed.{exact}
-use Rattle.gsv.specs.Gsv.{Satellite}
+use Rattle.gsv.specs.Gsv.{Satellite, GsvSentence}
 use Rattle.rows.specs.Key.{keyOf}
 use Rattle.rows.specs.Line.{lineOf}
-use Rattle.sentence.specs.Sentence.{GsvSentence}
 use Rattle.gather.specs.Words.{groupOf}
 use Rattle.gather.specs.Put.{toldBy}
 use Rattle.gather.specs.Table.{tableWords, freshTable, rowOf, tableOf, tableAfter}
@@ -54,7 +53,7 @@ pub gives : (t : Gatherer) (l : List ℕ) → length t ≡ tableWords → (f : O
 gives t l s none q = refl
 gives t l s (some x) q =
     let w = accepted-as l x q in
-    let κ = keyOf (x .system) in
+    let κ = keyOf x in
     let o = step (tableOf t κ) (lineOf x) in
     ap (λ (a : Outcome). handedIn a κ (tableAfter t (lineOf x))) (table-says t l x w s)
     ∙ gives-group κ (tableAfter t (lineOf x)) (o .group) (o .row) (table-group t l x w s)

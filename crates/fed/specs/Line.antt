@@ -3,7 +3,8 @@ use Prim.Native.Nat.{ℕ}
 use mathlib.Core.List.{List, [], _∷_, map}
 use mathlib.Core.Bool.{Bool, true, false}
 use mathlib.Core.Option.{Option, none, some}
-use Rattle.sentence.specs.Sentence.{Answer, isRmc, isGsa, isGsv, isOther, isRefused, GsvSentence, answer}
+use Rattle.gsv.specs.Gsv.{GsvSentence}
+use Rattle.answer.specs.Sentence.{Answer, isRmc, isGsa, isGsv, isOther, isRefused, answer}
 use Rattle.rows.specs.Line.{lineOf}
 use Rattle.gather.specs.Table.{tableAfter, saidBy}
 use Rattle.gather.specs.declared.line.Outcome.{Outcome}

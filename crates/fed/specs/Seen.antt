@@ -3,11 +3,10 @@ use Prim.Native.Nat.{ℕ}
 use mathlib.Core.List.{List, map}
 use mathlib.Core.Option.{Option, none, some}
 use lib.ListN.{getD}
-use Rattle.gsv.specs.Gsv.{Satellite}
+use Rattle.gsv.specs.Gsv.{Satellite, GsvSentence}
 use Rattle.groups.specs.Log.{Line, gsv, other, Handed as Out}
 use Rattle.rows.specs.Key.{keyOf}
 use Rattle.rows.specs.Line.{lineOf}
-use Rattle.sentence.specs.Sentence.{GsvSentence}
 use Rattle.gather.specs.Words.{groupOf}
 use Rattle.gather.specs.Table.{rowOf}
 use Rattle.gather.specs.declared.line.Outcome.{Outcome}
@@ -34,7 +33,7 @@ handedIn Complete κ t = some (record { key = κ; group = groupOf (rowOf t κ) }
 
 abbrev pub givenBy : Option GsvSentence → Gathered → Option (Out Satellite)
 givenBy none a = none
-givenBy (some s) a = handedIn (a .handed) (keyOf (s .system)) (a .gatherer)
+givenBy (some s) a = handedIn (a .handed) (keyOf s) (a .gatherer)
 
 abbrev pub givenAt : List Said → ℕ → Option (Out Satellite)
 givenAt ss i = givenBy (gsvOf (getD ss i blank)) (fedAt ss i)

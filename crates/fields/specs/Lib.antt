@@ -2,4 +2,5 @@ pub mod Time
 pub mod Date
 pub mod Position
 pub mod Variation
+pub mod Place
 pub mod Answer

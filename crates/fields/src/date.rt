@@ -115,10 +115,16 @@ pub fn parse_date(s: &[u8], at: usize) -> DateRead
     }
 }
 
-// A date that may be absent, and the next place.
+// A date that may be absent.
+pub enum DateHeld {
+    Absent,
+    Is(Day),
+}
+
+// A date that may be absent, and the next place; or no match.
 pub enum DateAt {
-    Absent(usize),
-    Is(Day, usize),
+    No,
+    Is(DateHeld, usize),
 }
 
 // A date, if one stands there.
@@ -126,7 +132,7 @@ pub fn opt_date(s: &[u8], at: usize) -> DateAt
     ensures { λ r. ⌜ Reads (now (s .entry)) at optDate (dateAt r) × (now (s .exit) ≡ now (s .entry)) ⌝ }
 {
     match parse_date(s, at) {
-        DateRead::No => DateAt::Absent(at),
-        DateRead::Is(d, next) => DateAt::Is(d, next),
+        DateRead::No => DateAt::Is(DateHeld::Absent, at),
+        DateRead::Is(d, next) => DateAt::Is(DateHeld::Is(d), next),
     }
 }

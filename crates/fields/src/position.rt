@@ -6,7 +6,7 @@ ghost use Rattle.text.specs.Answer.{next};
 ghost use Rattle.decimal.specs.Places.{signed};
 ghost use Rattle.decimal.specs.Answer.{aLong};
 ghost use Rattle.fields.specs.Position.{degreesOf, positionOf, side, latitude, longitude, doLatLon, commas, latLon};
-ghost use Rattle.fields.specs.Answer.{coordinate, sideAt, bothAt, placeAt};
+ghost use Rattle.fields.specs.Answer.{coordinate, sideAt, bothAt, positionAt};
 use decimal::LongAt;
 use decimal::LongDecimal;
 use text::Letter;
@@ -144,24 +144,29 @@ fn commas(s: &[u8], at: usize) -> Next
     text::byte(s, at, b',')
 }
 
+// A position that may be absent.
+pub enum PositionHeld {
+    Absent,
+    Is(Both),
+}
+
 // A position that may be absent, and the next place; no match; or the refusal Number.
-pub enum PlaceAt {
+pub enum PositionAt {
     No,
-    Absent(usize),
-    Is(Both, usize),
+    Is(PositionHeld, usize),
     Number,
 }
 
 // Exactly three commas, or all four parts.
-pub fn parse_lat_lon(s: &[u8], at: usize) -> PlaceAt
-    ensures { λ r. ⌜ Reads (now (s .entry)) at latLon (placeAt r) × (now (s .exit) ≡ now (s .entry)) ⌝ }
+pub fn parse_lat_lon(s: &[u8], at: usize) -> PositionAt
+    ensures { λ r. ⌜ Reads (now (s .entry)) at latLon (positionAt r) × (now (s .exit) ≡ now (s .entry)) ⌝ }
 {
     match commas(s, at) {
-        Next::At(p) => PlaceAt::Absent(p),
+        Next::At(p) => PositionAt::Is(PositionHeld::Absent, p),
         Next::No => match do_parse_lat_lon(s, at) {
-            BothAt::No => PlaceAt::No,
-            BothAt::Is(b, p) => PlaceAt::Is(b, p),
-            BothAt::Number => PlaceAt::Number,
+            BothAt::No => PositionAt::No,
+            BothAt::Is(b, p) => PositionAt::Is(PositionHeld::Is(b), p),
+            BothAt::Number => PositionAt::Number,
         },
     }
 }

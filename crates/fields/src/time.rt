@@ -71,10 +71,16 @@ pub fn parse_hms(s: &[u8], at: usize) -> TimeRead
     }
 }
 
-// A time that may be absent, and the next place, or a refusal.
+// A time that may be absent.
+pub enum TimeHeld {
+    Absent,
+    Is(TimeOfDay),
+}
+
+// A time that may be absent, and the next place; no match; or a refusal.
 pub enum TimeAt {
-    Absent(usize),
-    Is(TimeOfDay, usize),
+    No,
+    Is(TimeHeld, usize),
     Number,
     BadTime,
 }
@@ -84,8 +90,8 @@ pub fn opt_hms(s: &[u8], at: usize) -> TimeAt
     ensures { λ r. ⌜ Reads (now (s .entry)) at optHms (timeAt r) × (now (s .exit) ≡ now (s .entry)) ⌝ }
 {
     match parse_hms(s, at) {
-        TimeRead::No => TimeAt::Absent(at),
-        TimeRead::Is(t, next) => TimeAt::Is(t, next),
+        TimeRead::No => TimeAt::Is(TimeHeld::Absent, at),
+        TimeRead::Is(t, next) => TimeAt::Is(TimeHeld::Is(t), next),
         TimeRead::Number => TimeAt::Number,
         TimeRead::BadTime => TimeAt::BadTime,
     }

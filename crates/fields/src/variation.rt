@@ -5,7 +5,9 @@ ghost use lib.IntN.{natAbs};
 ghost use Rattle.text.specs.Placed.{Reads};
 ghost use Rattle.decimal.specs.Answer.{aShort};
 ghost use Rattle.fields.specs.Variation.{variationOf, doVariation, variation};
-ghost use Rattle.fields.specs.Answer.{magneticAt, variationAt};
+ghost use Rattle.fields.specs.Answer.{magneticAt, shortPlaceAt};
+use crate::place::ShortHeld;
+use crate::place::ShortPlace;
 use decimal::ShortAt;
 use decimal::ShortDecimal;
 use text::Letter;
@@ -54,24 +56,16 @@ pub fn do_parse_magnetic_variation(s: &[u8], at: usize) -> MagneticAt
     }
 }
 
-// A variation that may be absent, and the next place; no match; or the refusal Number.
-pub enum VariationAt {
-    No,
-    Absent(usize),
-    Is(ShortDecimal, usize),
-    Number,
-}
-
 // A comma at once, of which only that comma is eaten, or a variation.
-pub fn parse_magnetic_variation(s: &[u8], at: usize) -> VariationAt
-    ensures { λ r. ⌜ Reads (now (s .entry)) at variation (variationAt r) × (now (s .exit) ≡ now (s .entry)) ⌝ }
+pub fn parse_magnetic_variation(s: &[u8], at: usize) -> ShortPlace
+    ensures { λ r. ⌜ Reads (now (s .entry)) at variation (shortPlaceAt r) × (now (s .exit) ≡ now (s .entry)) ⌝ }
 {
     match text::byte(s, at, b',') {
-        Next::At(p) => VariationAt::Absent(p),
+        Next::At(p) => ShortPlace::Is(ShortHeld::Absent, p),
         Next::No => match do_parse_magnetic_variation(s, at) {
-            MagneticAt::No => VariationAt::No,
-            MagneticAt::Is(v, p) => VariationAt::Is(v, p),
-            MagneticAt::Number => VariationAt::Number,
+            MagneticAt::No => ShortPlace::No,
+            MagneticAt::Is(v, p) => ShortPlace::Is(ShortHeld::Is(v), p),
+            MagneticAt::Number => ShortPlace::Number,
         },
     }
 }

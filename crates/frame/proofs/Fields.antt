@@ -10,7 +10,8 @@ use lib.ListN.{length, drop, getD, length-drop}
 use Rattle.text.specs.Bytes.{byte}
 use Rattle.text.specs.Reader.{UnknownType, miss, refuse, got, char, orMiss}
 use Rattle.frame.specs.Types.{types, listed}
-use Rattle.frame.specs.Digits.{digit, leadDigit, sixteens, hex, orSixteen}
+use Rattle.frame.specs.Digits.{digit, leadDigit, sixteens, hex}
+use Rattle.frame.specs.Code.{orSixteen}
 use Rattle.frame.specs.Frame.{taken, known, sentenceType, checksumField}
 use Rattle.frame.proofs.Units.{digit-low, lead-low}
 use Rattle.text.proofs.Binds.{bind-miss, bind-got, char-here, char-other, miss-after}

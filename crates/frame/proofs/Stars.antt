@@ -11,7 +11,7 @@ use borrow.Author.Tests.{eq-eqb, ne-eqb, eqb-false}
 use Rattle.text.specs.Bytes.{byte}
 use Rattle.text.specs.Reader.{got, until}
 use Rattle.text.proofs.Places.{here}
-use Rattle.frame.specs.Star.{mark, marked}
+use Rattle.frame.specs.Code.{mark, marked}
 use Rattle.frame.proofs.Sums.{part-here, part-over}
 use Rattle.frame.proofs.Until.{Clear, none, more, until-back}
 

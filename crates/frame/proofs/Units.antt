@@ -7,7 +7,8 @@ use mathlib.Core.Option.{none, some}
 use lib.Dec.{leb, eqb}
 use borrow.Author.Tests.{le-leb, lt-leb, leb-true, eq-eqb, ne-eqb}
 use Rattle.text.specs.Bytes.{byte}
-use Rattle.frame.specs.Digits.{within, digit, leadDigit, orSixteen}
+use Rattle.frame.specs.Digits.{within, digit, leadDigit}
+use Rattle.frame.specs.Code.{orSixteen}
 
 module _ (lo hi b : ℕ) where
   inside : lo ≤ b → b ≤ hi → within lo hi b ≡ true

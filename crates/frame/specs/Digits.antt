@@ -31,8 +31,3 @@ hex (a ∷ b ∷ []) = sixteens (leadDigit a) (digit b)
 hex [] = none
 hex (a ∷ []) = none
 hex (a ∷ b ∷ c ∷ l) = none
-
--- for the code: a digit as a number, sixteen where there is none
-abbrev pub orSixteen : Option ℕ → ℕ
-orSixteen none = 16
-orSixteen (some v) = v

@@ -2,6 +2,6 @@ pub mod Refused
 pub mod Types
 pub mod Checksum
 pub mod Digits
-pub mod Star
+pub mod Code
 pub mod Frame
 pub mod Answer

@@ -9,7 +9,7 @@ ghost use Rattle.text.specs.Bytes.{byte};
 ghost use Rattle.text.specs.Reader.{until};
 ghost use Rattle.text.specs.Placed.{Reads};
 ghost use Rattle.text.specs.Answer.{part};
-ghost use Rattle.frame.specs.Star.{mark, marked};
+ghost use Rattle.frame.specs.Code.{mark, marked};
 
 // The flag after one byte more: up at a `*`.
 fn mark(flag: u8, b: u8) -> u8

@@ -5,7 +5,8 @@ ghost use lib.Seq.{slice};
 ghost use Rattle.text.specs.Placed.{Reads};
 ghost use Rattle.frame.specs.Checksum.{checksum};
 ghost use Rattle.frame.specs.Frame.{checksumField};
-ghost use Rattle.frame.specs.Digits.{digit, leadDigit, orSixteen};
+ghost use Rattle.frame.specs.Digits.{digit, leadDigit};
+ghost use Rattle.frame.specs.Code.{orSixteen};
 ghost use Rattle.frame.specs.Answer.{field};
 
 // The two digits' number, or no match.

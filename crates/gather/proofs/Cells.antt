@@ -16,7 +16,7 @@ use Rattle.gsv.specs.declared.Slot.{Slot}
 use Rattle.gsv.specs.declared.Slot.the-variants.{Empty, Seen}
 use Rattle.short.specs.Texts.{Upto, Readable, AllReadable}
 use Rattle.gather.specs.Words.{numberOf, satAt, satsFrom, wordOf, cellWords, flat}
-use Rattle.gather.specs.Put.{Stored}
+use Rattle.gather.specs.Code.{Stored}
 
 pub below : (vs l : List ℕ) (i j : ℕ) → j < i → getD (sets l i vs) j 0 ≡ getD l j 0
 below [] l i j h = refl

@@ -12,11 +12,11 @@ use lib.ListN.{length, getD, set}
 use lib.Seq.{sets, length-sets, getD-set-same}
 use Rattle.groups.specs.Log.{Gsv, Group}
 use Rattle.groups.specs.Step.{Open, sofar, taken, step}
-use Rattle.gsv.specs.Gsv.{Satellite}
+use Rattle.gsv.specs.Gsv.{Satellite, GsvSentence}
 use Rattle.gsv.proofs.Present.{at-most-four}
 use Rattle.short.specs.Texts.{AllReadable}
 use Rattle.short.proofs.Line.{room}
-use Rattle.sentence.specs.Sentence.{GsvSentence, answer, isGsv}
+use Rattle.answer.specs.Sentence.{answer, isGsv}
 use Rattle.rows.specs.Key.{rowCount}
 use Rattle.rows.specs.Line.{lineOf}
 use Rattle.rows.specs.Leave.{Leavable, leavable, Stands}

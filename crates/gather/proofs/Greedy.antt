@@ -15,7 +15,7 @@ use Rattle.pack.specs.Cut.{more, pieceCount}
 use Rattle.gsv.specs.Gsv.{Satellite}
 use Rattle.rows.specs.Leave.{entrySize}
 use Rattle.gather.specs.Words.{numberOf, satAt, satsFrom}
-use Rattle.gather.specs.Pile.{Digits, OptDigits, Sized, putOn}
+use Rattle.gather.specs.Code.{Digits, OptDigits, Sized, putOn}
 use Rattle.gather.specs.declared.lent.Pile.{Pile}
 
 pub one : (n : ℕ) → n < 10 → length (digitsOf n) ≡ 1

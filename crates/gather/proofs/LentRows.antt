@@ -13,11 +13,10 @@ use Rattle.groups.specs.Log.{Gsv, own, keep}
 use Rattle.groups.specs.Step.{Open, Table, step, fresh, after}
 use Rattle.groups.specs.Left.{All, left}
 use Rattle.groups.proofs.Fold.{outs, holding, outs-row, after-own}
-use Rattle.gsv.specs.Gsv.{Satellite}
+use Rattle.gsv.specs.Gsv.{Satellite, GsvSentence}
 use Rattle.rows.specs.Key.{rowCount}
 use Rattle.rows.specs.Line.{lineOf}
 use Rattle.rows.specs.Leave.{Line, leavable, Stands}
-use Rattle.sentence.specs.Sentence.{GsvSentence}
 use Rattle.short.specs.Room.{Written}
 use Rattle.gather.specs.Words.{openOf, stands, meant}
 use Rattle.gather.specs.Table.{tableWords, freshTable, rowOf, tableOf}

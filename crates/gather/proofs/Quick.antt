@@ -16,7 +16,8 @@ use Rattle.pack.proofs.Few.{four-each}
 use Rattle.gsv.specs.Gsv.{Satellite}
 use Rattle.rows.specs.Leave.{upto, readable, allReadable, entrySize, space, leavable}
 use Rattle.rows.proofs.Row.{few-entries}
-use Rattle.gather.specs.Words.{satsFrom, openOf, stands, satWithin, allWithin}
+use Rattle.gather.specs.Words.{satsFrom, openOf, stands}
+use Rattle.gather.specs.Code.{satWithin, allWithin}
 
 -- at the largest numbers that a line can have
 pub readable-is : (es : List Satellite) → allWithin 4294967295 2147483647 es ≡ allReadable es

@@ -16,7 +16,8 @@ use Rattle.pack.proofs.Few.{four-each}
 use Rattle.rows.specs.Leave.{entrySize, space}
 use Rattle.rows.proofs.Row.{passes}
 use Rattle.gather.specs.Words.{satsFrom, openOf, stands, meant, flat}
-use Rattle.gather.specs.Put.{nextOf, written, rowAfter, told, outcomeOf, Put, headed, onRow, beforeOf, Stored}
+use Rattle.gather.specs.Put.{nextOf, written, rowAfter, told, outcomeOf, Put}
+use Rattle.gather.specs.Code.{headed, onRow, beforeOf, Stored}
 use Rattle.gather.specs.declared.line.Before.{Before}
 use Rattle.gather.specs.declared.line.Outcome.the-variants.{NoRow, Nothing, Waiting, Complete}
 use Rattle.gather.proofs.Quick.{sats-long}

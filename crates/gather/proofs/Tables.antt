@@ -13,11 +13,11 @@ use lib.Seq.{sets, sets-eq, length-sets, ext-getD, getD-take, getD-drop, drop-dr
 use Rattle.groups.specs.Log.{Gsv, Line, gsv, Group}
 use Rattle.groups.specs.Left.{All}
 use Rattle.groups.specs.Step.{Table, sofar, step, next, fresh, after}
-use Rattle.gsv.specs.Gsv.{Satellite}
-use Rattle.gsv.specs.Talker.{System, beidou, galileo, gps, glonass, navic, qzss}
+use Rattle.gsv.specs.Gsv.{Satellite, GsvSentence}
+use Rattle.gsv.specs.Talker.{System, gps, glonass, galileo, beidou, qzss, navic, systemNumber}
 use Rattle.short.specs.Room.{Written}
-use Rattle.sentence.specs.Sentence.{GsvSentence, answer, isGsv}
-use Rattle.rows.specs.Key.{keyOf, rowCount}
+use Rattle.answer.specs.Sentence.{answer, isGsv}
+use Rattle.rows.specs.Key.{Source, sourceOf, rowFrom, rowCount}
 use Rattle.rows.specs.Line.{lineOf}
 use Rattle.gather.specs.Words.{groupOf, meant, flat}
 use Rattle.gather.specs.Put.{nextOf, written, rowAfter, told, outcomeOf, Put}
@@ -28,13 +28,17 @@ use Rattle.gather.specs.declared.line.Outcome.the-variants.{NoRow}
 use Rattle.gather.proofs.Cells.{below, above, inside}
 use Rattle.gather.proofs.Decode.{none-at, put-meaning, put-group}
 
-pub key-below : (s : System) → keyOf s < rowCount
-key-below beidou = omega arith
-key-below galileo = omega arith
-key-below gps = omega arith
-key-below glonass = omega arith
-key-below navic = omega arith
-key-below qzss = omega arith
+-- a system's number is one of 1 to 6, so that its row is one of the table's
+pub number-within : (s : System) → (1 ≤ systemNumber s) × (systemNumber s ≤ rowCount)
+number-within gps = (omega arith, omega arith)
+number-within glonass = (omega arith, omega arith)
+number-within galileo = (omega arith, omega arith)
+number-within beidou = (omega arith, omega arith)
+number-within qzss = (omega arith, omega arith)
+number-within navic = (omega arith, omega arith)
+
+pub row-below : (s : Source) → rowFrom s < rowCount
+row-below s = let h = number-within (s .system) in omega (arith, h .0, h .1)
 
 -- a line leaves as many words as there were
 pub after-long : (ws : List ℕ) (g : Gsv Satellite) → length (rowAfter ws g) ≡ length ws
@@ -127,7 +131,7 @@ module _ (t l : List ℕ) (h : GsvSentence) (read : answer l ≡ isGsv h) (long 
   g = lineOf h
 
   fits : g .key * 148 + 148 ≤ length t
-  fits = omega (arith, key-below (h .system))
+  fits = omega (arith, row-below (sourceOf h))
 
   row : length (rowOf t (g .key)) ≡ 148
   row = row-long t (g .key) fits

@@ -1,5 +1,6 @@
+pub mod Answer
 pub mod Words
 pub mod Put
 pub mod Table
 pub mod Run
-pub mod Pile
+pub mod Code

@@ -44,19 +44,3 @@ outcomeOf ws g = cond (eqb (length ws) rowWords) (told (step (meant ws) g)) NoRo
 pub record Put (ws ws′ : List ℕ) (g : Gsv Satellite) (r : Outcome) : Type 0 where
   pub words : ws′ ≡ rowAfter ws g
   pub says : r ≡ outcomeOf ws g
-
--- for the code: a line's n, number and in-view count decide alone what it goes on with
-abbrev pub headed : ℕ → ℕ → ℕ → Gsv Satellite
-headed n k v = record { key = 0; n = n; number = k; view = v; sats = [] }
-
-abbrev pub onRow : List ℕ → ℕ → ℕ → ℕ → Bool
-onRow ws n k v = eqb n (getD ws 0 0) && (eqb k (getD ws 1 0) && (eqb v (getD ws 2 0) && stands ws))
-
-abbrev pub beforeOf : Option (List Satellite) → Before
-beforeOf none = record { runs = false; count = 0 }
-beforeOf (some es) = record { runs = true; count = length es }
-
--- the words of k entries and some more
-pub record Stored (ws ws′ : List ℕ) (k : ℕ) (es : List Satellite) (r : ℕ) : Type 0 where
-  pub words : ws′ ≡ sets ws (4 + k * 4) (flat es)
-  pub count : r ≡ k + length es

@@ -4,7 +4,7 @@ use mathlib.Core.Path.{_≡_}
 use mathlib.Core.List.{List, [], _∷_}
 use mathlib.Core.Option.{some}
 use Rattle.groups.specs.Left.{All}
-use Rattle.sentence.specs.Sentence.{GsvSentence}
+use Rattle.gsv.specs.Gsv.{GsvSentence}
 use Rattle.short.specs.Room.{Written}
 use Rattle.rows.specs.Line.{lineOf}
 use Rattle.gather.specs.Words.{openOf}

@@ -4,14 +4,34 @@ ghost use Prim.Native.Nat.{_≤_, _<_};
 ghost use lib.ListN.{length};
 ghost use Rattle.pack.specs.Cut.{pieceCount};
 ghost use Rattle.rows.specs.Leave.{upto, entrySize, space};
-ghost use Rattle.gather.specs.Words.{numberOf, satAt, satsFrom, satWithin, allWithin, stands};
-ghost use Rattle.gather.specs.Pile.{Digits, OptDigits, Sized, putOn, Puts};
+ghost use Rattle.gather.specs.Words.{rowWords, cellCount, numberOf, satAt, satsFrom, stands};
+ghost use Rattle.gather.specs.Code.{satWithin, allWithin, Digits, OptDigits, Sized, putOn, Puts};
 
-// The words of a row.
-pub const ROW: usize = 148;
+// The words of a row: its head, and a cell of four words for each entry of nine lines of four.
+pub const ROW: usize = HEAD + CELLS * CELL;
 
-// The cells of a row: nine lines of four.
+pub const HEAD: usize = 4;
+
+pub const CELL: usize = 4;
+
 pub const CELLS: usize = 36;
+
+// Where in it n stands, the number waited for, the in-view count and the count of entries.
+pub const N: usize = 0;
+
+pub const NEXT: usize = 1;
+
+pub const VIEW: usize = 2;
+
+pub const COUNT: usize = 3;
+
+// The most lines of a group, and the most entries of a line.
+pub(crate) const LINES: u32 = 9;
+
+const ENTRIES: usize = 4;
+
+// What a line has left for its in-view count and its entries, and one more, since the last needs no comma.
+const SPACE: usize = 88;
 
 // The word of what is absent.
 pub const ABSENT: u32 = 4294967295;
@@ -30,10 +50,10 @@ fn within(x: u32, max: u32) -> bool
 
 // The numbers of cell i are within two limits.
 fn cell_within(row: &[u32], i: usize, ids: u32, max: u32) -> bool
-    requires { ⌜ (length (now row) ≡ 148) × (i < 36) ⌝ }
+    requires { ⌜ (length (now row) ≡ rowWords) × (i < cellCount) ⌝ }
     ensures { λ r. ⌜ r ≡ satWithin ids max (satAt (now (row .entry)) i) ⌝ }
 {
-    let at = 4 + i * 4;
+    let at = HEAD + i * CELL;
     if ids < row[at] {
         return false;
     }
@@ -47,7 +67,7 @@ fn cell_within(row: &[u32], i: usize, ids: u32, max: u32) -> bool
 }
 
 fn all_within(row: &[u32], count: usize, ids: u32, max: u32) -> bool
-    requires { ⌜ (length (now row) ≡ 148) × (count ≤ 36) ⌝ }
+    requires { ⌜ (length (now row) ≡ rowWords) × (count ≤ cellCount) ⌝ }
     ensures { λ r. ⌜ r ≡ allWithin ids max (satsFrom 0 count (now (row .entry))) ⌝ }
 {
     let mut i = 0;
@@ -84,10 +104,10 @@ fn opt_digits(x: u32) -> usize
 
 // The bytes of the entry in cell i, with one for a comma.
 fn size_at(row: &[u32], i: usize) -> usize
-    requires { ⌜ (length (now row) ≡ 148) × (i < 36) ⌝ }
+    requires { ⌜ (length (now row) ≡ rowWords) × (i < cellCount) ⌝ }
     ensures { λ r. ⌜ Sized (satAt (now (row .entry)) i) r ⌝ }
 {
-    let at = 4 + i * 4;
+    let at = HEAD + i * CELL;
     let a = digits(row[at]);
     let b = opt_digits(row[at + 1]);
     let c = opt_digits(row[at + 2]);
@@ -107,7 +127,7 @@ fn pile_on(p: Pile, w: usize, room: usize) -> Pile
     requires { ⌜ Puts p w ⌝ }
     ensures { λ r. ⌜ r ≡ putOn p w room ⌝ }
 {
-    if 4 <= p.count {
+    if ENTRIES <= p.count {
         return Pile {
             lines: p.lines + 1,
             count: 1,
@@ -131,14 +151,14 @@ fn pile_on(p: Pile, w: usize, room: usize) -> Pile
 
 // How many lines the first count of the cells take.
 fn pieces(row: &[u32], view: u32, count: usize) -> usize
-    requires { ⌜ (length (now row) ≡ 148) × (count ≤ 36) ⌝ }
+    requires { ⌜ (length (now row) ≡ rowWords) × (count ≤ cellCount) ⌝ }
     ensures { λ r. ⌜ r ≡ pieceCount entrySize (space view) (satsFrom 0 count (now (row .entry))) ⌝ }
 {
     let d = digits(view);
-    let room = 88 - d;
+    let room = SPACE - d;
     let mut p = Pile {
         lines: 0,
-        count: 4,
+        count: ENTRIES,
         used: 0,
     };
     let mut i = 0;
@@ -157,29 +177,28 @@ pub fn row_stands(row: &[u32]) -> bool
     if row.len() != ROW {
         return false;
     }
-    let next = row[1];
+    let next = row[NEXT];
     if next < 2 {
         return false;
     }
-    let n = row[0];
+    let n = row[N];
     if n < next {
         return false;
     }
-    if 9 < n {
+    if LINES < n {
         return false;
     }
-    let view = row[2];
+    let view = row[VIEW];
     if gsv::COUNT_MAX < view {
         return false;
     }
-    let many = row[3];
-    if 36 < many {
+    let count = row[COUNT] as usize;
+    if CELLS < count {
         return false;
     }
-    let count = many as usize;
     let came = next as usize - 1;
     if all_within(row, count, SHORT, SHORT) {
-        return count <= 4 * came;
+        return count <= ENTRIES * came;
     }
     if !all_within(row, count, gsv::ID_MAX, gsv::PLACE_MAX) {
         return false;

@@ -1,34 +1,34 @@
 // What an accepted GSV line does to its row, in place, whatever the row holds.
 ghost use mathlib.Core.Path.{_≡_};
 ghost use mathlib.Core.List.{[]};
-ghost use Prim.Native.Nat.{_≤_, _<_};
+ghost use Prim.Native.Nat.{_+_, _≤_, _<_};
 ghost use lib.ListN.{length};
 ghost use Rattle.text.specs.Answer.{held};
 ghost use Rattle.groups.specs.Step.{sofar};
 ghost use Rattle.gsv.specs.Gsv.{present, keep};
-ghost use Rattle.gsv.specs.Answer.{slot, gsvData};
+ghost use Rattle.gsv.specs.Answer.{slot, gsvData, gsvSentence};
 ghost use Rattle.rows.specs.Line.{lineOf};
-ghost use Rattle.sentence.specs.Answer.{gsvSentence};
-ghost use Rattle.gather.specs.Words.{wordOf, meant};
-ghost use Rattle.gather.specs.Put.{headed, onRow, beforeOf, Stored, Put};
+ghost use Rattle.gather.specs.Words.{rowWords, cellCount, wordOf, meant};
+ghost use Rattle.gather.specs.Put.{Put};
+ghost use Rattle.gather.specs.Code.{headed, onRow, beforeOf, Stored};
 use crate::lent;
 use gsv::GsvData;
+use gsv::GsvRecord;
 use gsv::Slot;
-use sentence::GsvRecord;
 use text::Held;
 
 // The line goes on with the run that stands in the row.
 fn goes_on(row: &[u32], n: u32, number: u32, view: u32) -> bool
-    requires { ⌜ length (now row) ≡ 148 ⌝ }
+    requires { ⌜ length (now row) ≡ rowWords ⌝ }
     ensures { λ r. ⌜ r ≡ onRow (now (row .entry)) n number view ⌝ }
 {
-    if n != row[0] {
+    if n != row[lent::N] {
         return false;
     }
-    if number != row[1] {
+    if number != row[lent::NEXT] {
         return false;
     }
-    if view != row[2] {
+    if view != row[lent::VIEW] {
         return false;
     }
     lent::row_stands(row)
@@ -41,7 +41,7 @@ pub struct Before {
 }
 
 fn so_far(row: &[u32], n: u32, number: u32, view: u32) -> Before
-    requires { ⌜ length (now row) ≡ 148 ⌝ }
+    requires { ⌜ length (now row) ≡ rowWords ⌝ }
     ensures { λ r. ⌜ r ≡ beforeOf (sofar (meant (now (row .entry))) (headed n number view)) ⌝ }
 {
     if number == 1 {
@@ -51,7 +51,7 @@ fn so_far(row: &[u32], n: u32, number: u32, view: u32) -> Before
                 count: 0,
             };
         }
-        if 9 < n {
+        if lent::LINES < n {
             return Before {
                 runs: false,
                 count: 0,
@@ -68,7 +68,7 @@ fn so_far(row: &[u32], n: u32, number: u32, view: u32) -> Before
             count: 0,
         };
     }
-    let count = row[3];
+    let count = row[lent::COUNT];
     Before {
         runs: true,
         count: count as usize,
@@ -86,13 +86,13 @@ fn word(m: Held) -> u32
 
 // An entry that is there goes into cell k; the count of cells after it.
 fn put_slot(row: &mut [u32], k: usize, s: Slot) -> usize
-    requires { ⌜ (length (now row) ≡ 148) × (k < 36) ⌝ }
+    requires { ⌜ (length (now row) ≡ rowWords) × (k < cellCount) ⌝ }
     ensures { λ r. ⌜ Stored (now (row .entry)) (now (row .exit)) k (keep (slot s) []) r ⌝ }
 {
     match s {
         Slot::Empty => k,
         Slot::Seen(t) => {
-            let at = 4 + k * 4;
+            let at = lent::HEAD + k * lent::CELL;
             let e = t.elevation;
             let a = t.azimuth;
             let g = t.signal;
@@ -107,7 +107,7 @@ fn put_slot(row: &mut [u32], k: usize, s: Slot) -> usize
 
 // The entries of a line go into the cells from k on.
 fn put_slots(row: &mut [u32], k: usize, d: GsvData) -> usize
-    requires { ⌜ (length (now row) ≡ 148) × (k ≤ 32) ⌝ }
+    requires { ⌜ (length (now row) ≡ rowWords) × (k + 4 ≤ cellCount) ⌝ }
     ensures { λ r. ⌜ Stored (now (row .entry)) (now (row .exit)) k (present (gsvData d)) r ⌝ }
 {
     let a = d.first;
@@ -141,20 +141,20 @@ pub fn put(row: &mut [u32], line: GsvRecord) -> Outcome
     let view = d.view;
     let before = so_far(&*row, n, number, view);
     if !before.runs {
-        row[1] = 0;
+        row[lent::NEXT] = 0;
         return Outcome::Nothing;
     }
     let count = before.count;
     let total = put_slots(&mut *row, count, d);
-    row[0] = n;
+    row[lent::N] = n;
     if number == n {
-        row[1] = 0;
-        row[2] = view;
-        row[3] = total as u32;
+        row[lent::NEXT] = 0;
+        row[lent::VIEW] = view;
+        row[lent::COUNT] = total as u32;
         return Outcome::Complete;
     }
-    row[1] = number + 1;
-    row[2] = view;
-    row[3] = total as u32;
+    row[lent::NEXT] = number + 1;
+    row[lent::VIEW] = view;
+    row[lent::COUNT] = total as u32;
     Outcome::Waiting
 }

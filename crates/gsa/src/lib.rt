@@ -26,7 +26,7 @@ const GALILEO: u8 = 3;
 const BEIDOU: u8 = 4;
 
 // How many items are kept, and the largest numbers of an item and of a system.
-const KEPT: usize = 18;
+pub const SATELLITES: usize = 18;
 
 const ITEM_MAX: u32 = 4294967295;
 
@@ -58,7 +58,7 @@ enum Item {
 
 // The satellites of the items that are kept: the first `count` cells, the others zero. And the next place.
 struct PrnsAt {
-    pub satellites: [u32; KEPT],
+    pub satellites: [u32; SATELLITES],
     pub count: usize,
     pub at: usize,
 }
@@ -93,7 +93,7 @@ enum TailAnswer {
 // What stands after mode and fix, with its satellites.
 struct TailRead {
     pub answer: TailAnswer,
-    pub satellites: [u32; KEPT],
+    pub satellites: [u32; SATELLITES],
     pub count: usize,
 }
 
@@ -114,7 +114,7 @@ pub enum GsaAnswer {
 // The answer, and beside it the satellites of its record: the first `count` cells. Each other cell is zero.
 pub struct GsaRead {
     pub answer: GsaAnswer,
-    pub satellites: [u32; KEPT],
+    pub satellites: [u32; SATELLITES],
     pub count: usize,
 }
 
@@ -206,7 +206,7 @@ fn prn_field(s: &[u8], at: usize) -> Item
 fn prn_fields(s: &[u8], at: usize) -> PrnsAt
     ensures { λ r. ⌜ Reads (now (s .entry)) at prnFields (prnsAt r) × Row (r .satellites) (r .count) × (now (s .exit) ≡ now (s .entry)) ⌝ }
 {
-    let mut satellites = [0u32; KEPT];
+    let mut satellites = [0u32; SATELLITES];
     let mut count: usize = 0;
     let mut seen: usize = 0;
     let mut i = at;
@@ -219,7 +219,7 @@ fn prn_fields(s: &[u8], at: usize) -> PrnsAt
             };
         };
         i = next;
-        if seen == KEPT {
+        if seen == SATELLITES {
             continue;
         }
         seen += 1;
@@ -349,7 +349,7 @@ fn without(answer: GsaAnswer) -> GsaRead
 {
     GsaRead {
         answer: answer,
-        satellites: [0u32; KEPT],
+        satellites: [0u32; SATELLITES],
         count: 0,
     }
 }

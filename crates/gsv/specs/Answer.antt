@@ -1,13 +1,17 @@
 -- What each answer of the code says.
 use Prim.Native.Nat.{ℕ}
+use mathlib.Core.List.{List, [], _∷_}
 use mathlib.Core.Option.{Option, none, some}
 use Rattle.text.specs.Placed.{Placed, unread, upto}
 use Rattle.text.specs.Value.{Value, syntax, is}
 use Rattle.text.specs.Answer.{held}
-use Rattle.gsv.specs.Talker.{System, beidou, galileo, gps, glonass, navic, qzss}
-use Rattle.gsv.specs.Gsv.{Satellite, Gsv}
+use Rattle.gsv.specs.Talker.{Talker, ga, gp, gl, bd, gb, gi, gq, pq, qz, System, gps, glonass, galileo, beidou, qzss, navic}
+use Rattle.gsv.specs.Gsv.{Satellite, Gsv, GsvSentence}
+use Rattle.gsv.specs.declared.GsvTalker.{GsvTalker}
+use Rattle.gsv.specs.declared.GsvTalker.the-variants.{Ga, Gp, Gl, Bd, Gb, Gi, Gq, Pq, Qz}
+use Rattle.gsv.specs.declared.Letters.{Letters}
 use Rattle.gsv.specs.declared.GnssType.{GnssType}
-use Rattle.gsv.specs.declared.GnssType.the-variants.{Beidou, Galileo, Gps, Glonass, NavIC, Qzss}
+use Rattle.gsv.specs.declared.GnssType.the-variants.{Gps, Glonass, Galileo, Beidou, Qzss, NavIC}
 use Rattle.gsv.specs.declared.TalkerOf.{TalkerOf}
 use Rattle.gsv.specs.declared.TalkerOf.the-variants.{Unknown, Is as Names}
 use Rattle.gsv.specs.declared.Cell.{Cell}
@@ -19,20 +23,35 @@ use Rattle.gsv.specs.declared.Slot.{Slot}
 use Rattle.gsv.specs.declared.Slot.the-variants.{Empty, Seen}
 use Rattle.gsv.specs.declared.SlotAt.{SlotAt}
 use Rattle.gsv.specs.declared.GsvData.{GsvData}
+use Rattle.gsv.specs.declared.GsvRecord.{GsvRecord}
 use Rattle.gsv.specs.declared.GsvRead.{GsvRead}
 use Rattle.gsv.specs.declared.GsvRead.the-variants.{Syntax, Is as Reads}
 
+abbrev pub talker : GsvTalker → Talker
+talker Ga = ga
+talker Gp = gp
+talker Gl = gl
+talker Bd = bd
+talker Gb = gb
+talker Gi = gi
+talker Gq = gq
+talker Pq = pq
+talker Qz = qz
+
+abbrev pub talkerRead : TalkerOf → Option Talker
+talkerRead Unknown = none
+talkerRead (Names t) = some (talker t)
+
+abbrev pub letters : Letters → List ℕ
+letters l = l .0 ∷ l .1 ∷ []
+
 abbrev pub gnss : GnssType → System
-gnss Beidou = beidou
-gnss Galileo = galileo
 gnss Gps = gps
 gnss Glonass = glonass
-gnss NavIC = navic
+gnss Galileo = galileo
+gnss Beidou = beidou
 gnss Qzss = qzss
-
-abbrev pub talker : TalkerOf → Option System
-talker Unknown = none
-talker (Names g) = some (gnss g)
+gnss NavIC = navic
 
 abbrev pub inCell : Cell → Placed (Option ℕ)
 inCell NoCell = unread
@@ -68,3 +87,6 @@ gsvData g =
 abbrev pub gsvRead : GsvRead → Value Gsv
 gsvRead Syntax = syntax
 gsvRead (Reads g) = is (gsvData g)
+
+abbrev pub gsvSentence : GsvRecord → GsvSentence
+gsvSentence g = record { talker = talker (g .talker); body = gsvData (g .data) }

@@ -15,6 +15,7 @@ use mathlib.Core.Option.{Option, none, some}
 use Rattle.text.specs.Bytes.{byte}
 use Rattle.text.specs.Reader.{got, Reader, pure, opt, char, _>>=_, _>>_}
 use Rattle.text.specs.Number.{number}
+use Rattle.gsv.specs.Talker.{Talker}
 
 -- the most that a line can say: n, number and in-view count are u16, a satellite's number u32, the rest of an entry i32
 abbrev pub countMax : ℕ
@@ -91,3 +92,8 @@ keep (some s) es = s ∷ es
 -- the present entries, in order
 abbrev pub present : Gsv → List Satellite
 present g = keep (g .first) (keep (g .second) (keep (g .third) (keep (g .fourth) [])))
+
+-- a GSV sentence: its talker and its data
+pub record GsvSentence : Type 0 where
+  pub talker : Talker
+  pub body : Gsv

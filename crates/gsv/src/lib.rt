@@ -1,13 +1,14 @@
-// GSV, satellites in view: the reader of its data, and the system that its talker names.
+// GSV, satellites in view: its talkers with their systems, and the reader of its data.
 // The data: sentences of the group, which of them this is, satellites in view, and four entries.
 ghost use mathlib.Core.Path.{_≡_};
+ghost use Rattle.text.specs.Bytes.{byte};
 ghost use Rattle.text.specs.Reader.{opt};
 ghost use Rattle.text.specs.Placed.{Reads};
 ghost use Rattle.text.specs.Value.{value};
 ghost use Rattle.text.specs.Answer.{wholeAt, next};
-ghost use Rattle.gsv.specs.Talker.{systemOf};
+ghost use Rattle.gsv.specs.Talker.{talkerOf, lettersOf, systemOf, systemNumber};
 ghost use Rattle.gsv.specs.Gsv.{closing, counted, cell, entry, gsv};
-ghost use Rattle.gsv.specs.Answer.{talker, inCell, entryAt, slotAt, gsvRead};
+ghost use Rattle.gsv.specs.Answer.{talker, talkerRead, letters, gnss, inCell, entryAt, slotAt, gsvRead};
 use text::Held;
 use text::Next;
 use text::Whole;
@@ -19,73 +20,136 @@ pub const ID_MAX: u32 = 4294967295;
 
 pub const PLACE_MAX: u32 = 2147483647;
 
-// The system that satellites belong to.
-pub enum GnssType {
-    Beidou,
-    Galileo,
-    Gps,
-    Glonass,
-    NavIC,
-    Qzss,
+// The talkers of GSV.
+pub enum GsvTalker {
+    Ga,
+    Gp,
+    Gl,
+    Bd,
+    Gb,
+    Gi,
+    Gq,
+    Pq,
+    Qz,
 }
 
-// The system that a talker names, if it names one.
+// The talker that two letters are, if they are one.
 pub enum TalkerOf {
     Unknown,
-    Is(GnssType),
+    Is(GsvTalker),
 }
 
-// The system of a talker whose first letter is G.
+// The talker whose first letter is G.
 fn of_g(b: u8) -> TalkerOf
-    ensures { λ r. ⌜ talker r ≡ systemOf 71 b ⌝ }
+    ensures { λ r. ⌜ talkerRead r ≡ talkerOf (byte "G") b ⌝ }
 {
     if b == b'A' {
-        return TalkerOf::Is(GnssType::Galileo);
+        return TalkerOf::Is(GsvTalker::Ga);
     }
     if b == b'P' {
-        return TalkerOf::Is(GnssType::Gps);
+        return TalkerOf::Is(GsvTalker::Gp);
     }
     if b == b'L' {
-        return TalkerOf::Is(GnssType::Glonass);
+        return TalkerOf::Is(GsvTalker::Gl);
     }
     if b == b'B' {
-        return TalkerOf::Is(GnssType::Beidou);
+        return TalkerOf::Is(GsvTalker::Gb);
     }
     if b == b'I' {
-        return TalkerOf::Is(GnssType::NavIC);
+        return TalkerOf::Is(GsvTalker::Gi);
     }
     if b == b'Q' {
-        return TalkerOf::Is(GnssType::Qzss);
+        return TalkerOf::Is(GsvTalker::Gq);
     }
     TalkerOf::Unknown
 }
 
-// The system that the two talker letters name.
-pub fn gnss_type(a: u8, b: u8) -> TalkerOf
-    ensures { λ r. ⌜ talker r ≡ systemOf a b ⌝ }
+// The talker that the two letters are.
+pub fn talker_of(a: u8, b: u8) -> TalkerOf
+    ensures { λ r. ⌜ talkerRead r ≡ talkerOf a b ⌝ }
 {
     if a == b'G' {
         return of_g(b);
     }
     if a == b'B' {
         if b == b'D' {
-            return TalkerOf::Is(GnssType::Beidou);
+            return TalkerOf::Is(GsvTalker::Bd);
         }
         return TalkerOf::Unknown;
     }
     if a == b'P' {
         if b == b'Q' {
-            return TalkerOf::Is(GnssType::Qzss);
+            return TalkerOf::Is(GsvTalker::Pq);
         }
         return TalkerOf::Unknown;
     }
     if a == b'Q' {
         if b == b'Z' {
-            return TalkerOf::Is(GnssType::Qzss);
+            return TalkerOf::Is(GsvTalker::Qz);
         }
         return TalkerOf::Unknown;
     }
     TalkerOf::Unknown
+}
+
+// A talker's two letters.
+pub struct Letters(pub u8, pub u8);
+
+pub fn letters_of(t: GsvTalker) -> Letters
+    ensures { λ r. ⌜ letters r ≡ lettersOf (talker t) ⌝ }
+{
+    match t {
+        GsvTalker::Ga => Letters(b'G', b'A'),
+        GsvTalker::Gp => Letters(b'G', b'P'),
+        GsvTalker::Gl => Letters(b'G', b'L'),
+        GsvTalker::Bd => Letters(b'B', b'D'),
+        GsvTalker::Gb => Letters(b'G', b'B'),
+        GsvTalker::Gi => Letters(b'G', b'I'),
+        GsvTalker::Gq => Letters(b'G', b'Q'),
+        GsvTalker::Pq => Letters(b'P', b'Q'),
+        GsvTalker::Qz => Letters(b'Q', b'Z'),
+    }
+}
+
+// The system that satellites belong to.
+pub enum GnssType {
+    Gps,
+    Glonass,
+    Galileo,
+    Beidou,
+    Qzss,
+    NavIC,
+}
+
+// The system that a talker names.
+pub fn gnss_type(t: GsvTalker) -> GnssType
+    ensures { λ r. ⌜ gnss r ≡ systemOf (talker t) ⌝ }
+{
+    match t {
+        GsvTalker::Ga => GnssType::Galileo,
+        GsvTalker::Gp => GnssType::Gps,
+        GsvTalker::Gl => GnssType::Glonass,
+        GsvTalker::Bd => GnssType::Beidou,
+        GsvTalker::Gb => GnssType::Beidou,
+        GsvTalker::Gi => GnssType::NavIC,
+        GsvTalker::Gq => GnssType::Qzss,
+        GsvTalker::Pq => GnssType::Qzss,
+        GsvTalker::Qz => GnssType::Qzss,
+    }
+}
+
+// The number of a system.
+pub fn system_number(g: GnssType) -> u32
+    ensures { λ r. ⌜ r ≡ systemNumber (gnss g) ⌝ }
+{
+    match g {
+        GnssType::Gps => 1,
+        GnssType::Glonass => 2,
+        GnssType::Galileo => 3,
+        GnssType::Beidou => 4,
+        GnssType::Qzss => 5,
+        GnssType::NavIC => 6,
+    }
 }
 
 // A closing comma, unless the data ends.
@@ -252,4 +316,10 @@ pub fn do_parse_gsv(s: &[u8]) -> GsvRead
         third: third,
         fourth: fourth,
     })
+}
+
+// A GSV sentence: one of its talkers, and the data.
+pub struct GsvRecord {
+    pub talker: GsvTalker,
+    pub data: GsvData,
 }

@@ -15,7 +15,8 @@ use Rattle.frame.specs.declared.sentence.Sentence.{Sentence}
 use Rattle.frame.specs.declared.parse.Framed.{Framed}
 use Rattle.frame.specs.declared.parse.Framed.the-variants.{Is as Accepted, Refused as NotAccepted}
 use Rattle.frame.proofs.Within.{within}
-use Rattle.held.specs.Calculated.{sumOf, sumIn, comesTo, refused}
+use Rattle.held.specs.Calculated.{sumIn, comesTo, refused}
+use Rattle.held.specs.Answer.{sumOf}
 
 module _ (s : List ℕ) {r : Framed} (h : framed s r ≡ frame s) where
   pub told-refused : {y : Refusal} → r ≡ NotAccepted y → refused (why y) ≡ sumIn (frame s)

@@ -2,8 +2,8 @@
 ghost use mathlib.Core.Path.{_≡_};
 ghost use Rattle.frame.specs.Frame.{frame};
 ghost use Rattle.frame.specs.Answer.{dataOf};
-ghost use Rattle.held.specs.Calculated.{sumOf, sumIn};
-ghost use Rattle.held.specs.Answer.{summed};
+ghost use Rattle.held.specs.Calculated.{sumIn};
+ghost use Rattle.held.specs.Answer.{sumOf, summed};
 use frame::Framed;
 use frame::Kind;
 use frame::Refusal;

@@ -14,9 +14,13 @@ use decimal::ShortAt;
 use decimal::ShortDecimal;
 use fields::Coordinate;
 use fields::DateAt;
-use fields::PlaceAt;
+use fields::DateHeld;
+use fields::PositionAt;
+use fields::PositionHeld;
+use fields::ShortHeld;
+use fields::ShortPlace;
 use fields::TimeAt;
-use fields::VariationAt;
+use fields::TimeHeld;
 use frame::Kind;
 use frame::Sentence;
 use frame::Talker;
@@ -67,14 +71,17 @@ fn long(text: &[u8], at: usize) {
 
 fn time(text: &[u8], at: usize) {
     match fields::opt_hms(text, at) {
-        TimeAt::Absent(p) => end(ABSENT, p),
-        TimeAt::Is(t, p) => {
-            small(t.hour);
-            small(t.minute);
-            small(t.second);
-            small(t.nanosecond);
-            end(NEXT, p);
-        }
+        TimeAt::No => end(NO, 0),
+        TimeAt::Is(h, p) => match h {
+            TimeHeld::Absent => end(ABSENT, p),
+            TimeHeld::Is(t) => {
+                small(t.hour);
+                small(t.minute);
+                small(t.second);
+                small(t.nanosecond);
+                end(NEXT, p);
+            }
+        },
         TimeAt::Number => end(REFUSED, 9),
         TimeAt::BadTime => end(REFUSED, 11),
     }
@@ -82,13 +89,16 @@ fn time(text: &[u8], at: usize) {
 
 fn date(text: &[u8], at: usize) {
     match fields::opt_date(text, at) {
-        DateAt::Absent(p) => end(ABSENT, p),
-        DateAt::Is(d, p) => {
-            small(d.year);
-            small(d.month);
-            small(d.day);
-            end(NEXT, p);
-        }
+        DateAt::No => end(NO, 0),
+        DateAt::Is(h, p) => match h {
+            DateHeld::Absent => end(ABSENT, p),
+            DateHeld::Is(d) => {
+                small(d.year);
+                small(d.month);
+                small(d.day);
+                end(NEXT, p);
+            }
+        },
     }
 }
 
@@ -100,26 +110,30 @@ fn coordinate(c: Coordinate) {
 
 fn position(text: &[u8], at: usize) {
     match fields::parse_lat_lon(text, at) {
-        PlaceAt::No => end(NO, 0),
-        PlaceAt::Absent(p) => end(ABSENT, p),
-        PlaceAt::Is(b, p) => {
-            coordinate(b.lat);
-            coordinate(b.lon);
-            end(NEXT, p);
-        }
-        PlaceAt::Number => end(REFUSED, 9),
+        PositionAt::No => end(NO, 0),
+        PositionAt::Is(h, p) => match h {
+            PositionHeld::Absent => end(ABSENT, p),
+            PositionHeld::Is(b) => {
+                coordinate(b.lat);
+                coordinate(b.lon);
+                end(NEXT, p);
+            }
+        },
+        PositionAt::Number => end(REFUSED, 9),
     }
 }
 
 fn variation(text: &[u8], at: usize) {
     match fields::parse_magnetic_variation(text, at) {
-        VariationAt::No => end(NO, 0),
-        VariationAt::Absent(p) => end(ABSENT, p),
-        VariationAt::Is(d, p) => {
-            short_decimal(d);
-            end(NEXT, p);
-        }
-        VariationAt::Number => end(REFUSED, 9),
+        ShortPlace::No => end(NO, 0),
+        ShortPlace::Is(h, p) => match h {
+            ShortHeld::Absent => end(ABSENT, p),
+            ShortHeld::Is(d) => {
+                short_decimal(d);
+                end(NEXT, p);
+            }
+        },
+        ShortPlace::Number => end(REFUSED, 9),
     }
 }
 

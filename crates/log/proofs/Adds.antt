@@ -3,31 +3,31 @@ use Prim.Native.Nat.{ℕ, _+_}
 use native.Mathlib.Omega.{arith}
 use mathlib.Core.Path.{_≡_, refl, ap, _∙_}
 use mathlib.Core.List.{List, []}
-use mathlib.Core.Bool.{Bool, false}
-use mathlib.Core.Option.{Option}
+use mathlib.Core.Option.{none}
 use lib.ListN.{take}
 use Rattle.lines.specs.Places.{lineAt}
 use Rattle.rows.specs.Line.{lineOf}
 use Rattle.gather.specs.Table.{Gathers}
 use Rattle.gather.specs.declared.line.Outcome.{Outcome}
-use Rattle.sentence.specs.Answer.{recordOf, gsvSentence}
+use Rattle.gather.specs.declared.line.Outcome.the-variants.{Nothing}
+use Rattle.gsv.specs.Answer.{gsvSentence}
+use Rattle.sentence.specs.Answer.{recordOf}
 use Rattle.sentence.specs.declared.Record.{Record}
-use Rattle.sentence.specs.declared.GsvRecord.{GsvRecord}
-use Rattle.sentence.specs.Sentence.{isRmc, isGsa, isGsv, isOther, isRefused, GsvSentence}
+use Rattle.gsv.specs.declared.GsvRecord.{GsvRecord}
+use Rattle.answer.specs.Sentence.{isRmc, isGsa, isGsv, isOther, isRefused}
 use Rattle.sentence.specs.declared.Record.the-variants.{Rmc, Gsa, Gsv, Other, Refused}
 use Rattle.fed.specs.Line.{Said, blank, read, saidOf, gsvOf, gathers}
 use Rattle.fed.specs.Fed.{isHanded}
-use Rattle.log.specs.declared.line.Said as Code
-use Rattle.log.specs.declared.line.Said.the-variants.{Blank, Read}
-use Rattle.log.specs.declared.line.Here.{Here}
+use Rattle.log.specs.declared.line.Line as Code
+use Rattle.log.specs.declared.line.Line.the-variants.{Blank, Read}
+use Rattle.log.specs.declared.line.LineAt.{LineAt}
 use Rattle.log.specs.declared.walk.Counts.{Counts}
-use Rattle.log.specs.declared.walk.Sort.the-variants.{Blank as Sort-Blank, Accepted}
-use Rattle.log.specs.declared.walk.Taken.{Taken}
+use Rattle.log.specs.declared.walk.LineTaken.{LineTaken}
 use Rattle.log.specs.Walk.{tallied}
-use Rattle.log.specs.Answer.{saidIn, SaysHere}
-use Rattle.log.specs.Code.{sortOf, talliedBy, Took, Turned}
+use Rattle.log.specs.Answer.{lineIn, Follows}
+use Rattle.log.specs.Code.{SaysLine, sortOf, talliedBy, Takes}
 
-gsv-beside : (xs : List ℕ) (s : Code.Said) → gsvOf (saidIn [] s) ≡ gsvOf (saidIn xs s)
+gsv-beside : (xs : List ℕ) (l : Code.Line) → gsvOf (lineIn [] l) ≡ gsvOf (lineIn xs l)
 gsv-beside xs Blank = refl
 gsv-beside xs (Read (Rmc r)) = refl
 gsv-beside xs (Read (Gsa g)) = refl
@@ -35,7 +35,7 @@ gsv-beside xs (Read (Gsv g)) = refl
 gsv-beside xs (Read (Other k)) = refl
 gsv-beside xs (Read (Refused r)) = refl
 
-sort-beside : (xs : List ℕ) (s : Code.Said) → sortOf (saidIn [] s) ≡ sortOf (saidIn xs s)
+sort-beside : (xs : List ℕ) (l : Code.Line) → sortOf (lineIn [] l) ≡ sortOf (lineIn xs l)
 sort-beside xs Blank = refl
 sort-beside xs (Read (Rmc r)) = refl
 sort-beside xs (Read (Gsa g)) = refl
@@ -59,31 +59,25 @@ module _ (c : Counts) (next : ℕ) where
   by-sort (read (isOther k)) = one-accepted
   by-sort (read (isRefused r)) = λ i. record { lines = c .lines + 1; blank = zero' (c .blank) i; accepted = zero' (c .accepted) i; refused = c .refused + 1; groups = c .groups; next = next }
 
--- the line at a place, as the code has it: the GSV sentence that it is, and the counts with it
-module _ (log : List ℕ) (p : ℕ) (h : Here) (sh : SaysHere log p h) where
-  abbrev xs : List ℕ
-  xs = take (h .count) (h .satellites)
+-- the line at a place, as the code has it: the GSV sentence that it is, and what it counts as and does
+module _ (log : List ℕ) (p : ℕ) (l : LineAt) (says : SaysLine log p l) where
+  pub gsv-is : gsvOf (lineIn [] (l .line)) ≡ gsvOf (saidOf (lineAt log p))
+  gsv-is = gsv-beside (take (l .count) (l .satellites)) (l .line) ∙ ap gsvOf (says .says)
 
-  pub found-is : {o : Option GsvSentence} → o ≡ gsvOf (saidIn [] (h .said)) → o ≡ gsvOf (saidOf (lineAt log p))
-  found-is e = e ∙ gsv-beside xs (h .said) ∙ ap gsvOf (sh .says)
-
-  -- what it counts as and does, where the code took its record
-  pub turned : {t t′ : List ℕ} {k : Taken} → Took (saidIn [] (h .said)) t t′ k
-      → Turned log p t t′ (record { sort = k .sort; handed = k .handed; next = h .next })
-  turned {t} {t′} {k} x =
-      let e : gsvOf (saidIn [] (h .said)) ≡ gsvOf (saidOf (lineAt log p)) = found-is refl in
+  pub taken : {t t′ : List ℕ} {o : Outcome} {k : LineTaken} → Follows (gsvOf (lineIn [] (l .line))) t t′ o → k .sort ≡ sortOf (lineIn [] (l .line))
+      → k .handed ≡ isHanded o → k .next ≡ l .next → Takes log p t t′ k
+  taken {t} x sort handed next =
       record {
-        sort = x .sort ∙ sort-beside xs (h .said) ∙ ap sortOf (sh .says);
-        handed = x .handed ∙ (λ i. isHanded (gathers t (e i) .handed));
-        words = x .words ∙ (λ i. gathers t (e i) .gatherer);
-        next = sh .next;
+        sort = sort ∙ sort-beside (take (l .count) (l .satellites)) (l .line) ∙ ap sortOf (says .says);
+        handed = handed ∙ ap isHanded (x .says) ∙ (λ i. isHanded (gathers t (gsv-is i) .handed));
+        words = x .words ∙ (λ i. gathers t (gsv-is i) .gatherer);
+        next = next ∙ says .next;
       }
 
--- a blank line, and a record that is a GSV record
-pub took-blank : (t : List ℕ) → Took blank t t (record { sort = Sort-Blank; handed = false })
-took-blank t = record { sort = refl; handed = refl; words = refl }
+-- a line that does nothing, and a GSV record
+pub follows-none : (t : List ℕ) → Follows none t t Nothing
+follows-none t = record { words = refl; says = refl }
 
-pub took-gsv : (a : Record) (g : GsvRecord) (t t′ : List ℕ) (o : Outcome) (b : Bool) → a ≡ Gsv g → Gathers t t′ (lineOf (gsvSentence g)) o
-    → b ≡ isHanded o → Took (read (recordOf [] a)) t t′ (record { sort = Accepted; handed = b })
-took-gsv a g t t′ o b e x eb =
-    rw e (record { sort = refl; handed = eb ∙ ap isHanded (x .says); words = x .words })
+pub follows-gsv : (a : Record) (g : GsvRecord) (t t′ : List ℕ) (o : Outcome) → a ≡ Gsv g → Gathers t t′ (lineOf (gsvSentence g)) o
+    → Follows (gsvOf (read (recordOf [] a))) t t′ o
+follows-gsv a g t t′ o e x = rw e (record { words = x .words; says = x .says })

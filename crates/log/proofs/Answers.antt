@@ -12,6 +12,7 @@ use Rattle.fed.specs.Line.{Gatherer}
 use Rattle.log.specs.declared.walk.Counts.{Counts}
 use Rattle.log.specs.declared.walk.Walked as Code
 use Rattle.log.specs.declared.walk.Walked.the-variants.{Refused, Went}
+use Rattle.log.specs.Step.{longest}
 use Rattle.log.specs.Walk.{begin, Walked, gone, walkOf}
 use Rattle.log.specs.Answer.{walkIn, SaysWalk}
 use Rattle.log.proofs.Goes.{goOn, go-none, go-end, Goes}
@@ -21,19 +22,19 @@ answered : (a : Code.Walked) (g : Gatherer) {w : Walked} → _≡_ {A = Walked} 
 answered a g e = record { says = ap (λ (v : Walked). v .answer) e; gatherer = ap (λ (v : Walked). v .gatherer) e }
 
 module _ (log : List ℕ) (p n : ℕ) (g : Gatherer) where
-  pub walk-long : 65536 < length log → SaysWalk (walkOf log p n g) g (Refused (LogTooLong (length log)))
+  pub walk-long : longest < length log → SaysWalk (walkOf log p n g) g (Refused (LogTooLong (length log)))
   unfolding walkOf
-  walk-long h = answered (Refused (LogTooLong (length log))) g (simp (lt-ltb 65536 (length log) h))
+  walk-long h = answered (Refused (LogTooLong (length log))) g (simp (lt-ltb longest (length log) h))
 
-  module _ (short : length log ≤ 65536) {place : Bool} (tested : place ≡ isPlace log p) where
+  module _ (short : length log ≤ longest) {place : Bool} (tested : place ≡ isPlace log p) where
     pub walk-bad : not place ≡ true → SaysWalk (walkOf log p n g) g (Refused (BadPlace p))
     unfolding walkOf
-    walk-bad t = answered (Refused (BadPlace p)) g (simp (le-ltb 65536 (length log) short, sym tested ∙ not-true place t))
+    walk-bad t = answered (Refused (BadPlace p)) g (simp (le-ltb longest (length log) short, sym tested ∙ not-true place t))
 
     module _ (t : not place ≡ false) where
       walk-good : gone (goOn log n (begin p g)) ≡ walkOf log p n g
       unfolding walkOf
-      walk-good = simp (le-ltb 65536 (length log) short, sym tested ∙ not-false place t)
+      walk-good = simp (le-ltb longest (length log) short, sym tested ∙ not-false place t)
 
       module _ (c : Counts) (a : Gatherer) (w : Goes log p n g c a) where
         -- no step is left

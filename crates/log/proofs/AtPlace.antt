@@ -8,13 +8,13 @@ use lib.ListN.{length, take, drop, length-take, length-drop}
 use Rattle.lines.specs.Places.{stretch, lineAt, nextPlace}
 use Rattle.lines.proofs.Next.{next-is}
 use Rattle.gsa.specs.Answer.{row}
-use Rattle.sentence.specs.Sentence.{answer}
+use Rattle.answer.specs.Sentence.{answer}
 use Rattle.sentence.specs.Answer.{Says}
 use Rattle.sentence.specs.declared.ParseResult.{ParseResult}
 use Rattle.fed.specs.Line.{Said, blank, read, saidOf}
-use Rattle.log.specs.declared.line.Said.the-variants.{Blank, Read}
-use Rattle.log.specs.Answer.{besideSaid, Cells, SaysHere}
-use Rattle.log.specs.Code.{CutAt}
+use Rattle.log.specs.declared.line.Line.the-variants.{Blank, Read}
+use Rattle.log.specs.Answer.{besideSaid, Cells}
+use Rattle.log.specs.Code.{SaysLine, CutAt}
 
 said-read : (l : List ℕ) → 0 < length l → read (answer l) ≡ saidOf l
 said-read [] h = absurd (omega arith)
@@ -29,7 +29,7 @@ module _ (log : List ℕ) (p end cut next : ℕ) (in' : p < length log) (ends : 
       let h : p ≤ length log = omega arith in
       after ∙ e ∙ sym (next-is log p h)
 
-  pub here-blank : cut ≡ p → SaysHere log p (record { said = Blank; satellites = row []; count = 0; next = next })
+  pub here-blank : cut ≡ p → SaysLine log p (record { line = Blank; satellites = row []; count = 0; next = next })
   here-blank e =
       let z : cut - p ≡ 0 = omega arith in
       let l : blank ≡ saidOf (lineAt log p) = sym (ap saidOf (line .line ∙ ap (λ (k : ℕ). take k (drop p log)) z)) in
@@ -40,7 +40,7 @@ module _ (log : List ℕ) (p end cut next : ℕ) (in' : p < length log) (ends : 
       }
 
   pub here-read : (cut ≡ p → ⊥) → (text : List ℕ) → text ≡ take (cut - p) (drop p log) → (a : ParseResult) → Says (answer text) a
-      → SaysHere log p (record { said = Read (a .answer); satellites = a .satellites; count = a .count; next = next })
+      → SaysLine log p (record { line = Read (a .answer); satellites = a .satellites; count = a .count; next = next })
   here-read n text et a ea =
       let m : length (lineAt log p) ≡ min (cut - p) (length log - p) =
       ap length (line .line) ∙ length-take (cut - p) (drop p log) ∙ ap (min (cut - p)) (length-drop p log) in

@@ -18,8 +18,8 @@ use Rattle.lines.specs.Places.{isPlace, rest, lineAt}
 use Rattle.lines.proofs.OneByte.{lines-around, one-byte}
 use Rattle.groups.specs.Log.{Gsv, gsv, other, Handed}
 use Rattle.gsv.specs.Gsv.{Satellite}
-use Rattle.sentence.specs.Sentence.{answer, isRefused}
-use Rattle.sentence.proofs.OneByte.{Refuses, one-byte-refused}
+use Rattle.answer.specs.Sentence.{answer, isRefused}
+use Rattle.answer.proofs.OneByte.{Refuses, one-byte-refused}
 use Rattle.fed.specs.Line.{Said, blank, read, saidOf}
 use Rattle.log.specs.Step.{longest}
 use Rattle.log.specs.Told.{says, told, stepAfter, lineIn, Gives}

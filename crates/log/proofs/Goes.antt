@@ -11,16 +11,16 @@ use Rattle.lines.specs.Lines.{lines}
 use Rattle.lines.specs.Places.{isPlace, lineAt, nextPlace}
 use Rattle.lines.proofs.Next.{next-within, next-more, next-place, lines-here, lines-end}
 use Rattle.rows.specs.Line.{lineOf}
-use Rattle.sentence.specs.Sentence.{GsvSentence}
+use Rattle.gsv.specs.Gsv.{GsvSentence}
 use Rattle.gather.proofs.Tables.{table-long}
 use Rattle.fed.specs.Line.{saidOf, gsvOf, Gatherer, Gathered, gathers}
 use Rattle.fed.specs.Fed.{isHanded}
 use Rattle.fed.proofs.Counts.{one-of-three}
 use Rattle.log.specs.declared.walk.Counts.{Counts}
-use Rattle.log.specs.declared.walk.Turn.{Turn}
-use Rattle.log.specs.Step.{Stepped}
+use Rattle.log.specs.declared.walk.LineTaken.{LineTaken}
+use Rattle.log.specs.Step.{longest, Stepped}
 use Rattle.log.specs.Walk.{tallied, grouped, Going, counted, onward, steps, begin}
-use Rattle.log.specs.Code.{talliedBy, Within, Turned}
+use Rattle.log.specs.Code.{talliedBy, Within, Takes}
 use Rattle.log.proofs.Places.{place-within}
 use Rattle.log.proofs.Adds.{by-sort}
 use Rattle.log.proofs.OneStep.{at-line, good-place}
@@ -39,7 +39,7 @@ lineGathered log w = gathers (w .gatherer) (gsvOf (saidOf (lineAt log (w .counts
 abbrev pub going : List ℕ → Going → Going
 going log w = goingBy (lineTallied log (w .counts)) (lineGathered log w)
 
-pub onward-line : (log : List ℕ) (w : Going) → length log ≤ 65536 → isPlace log (w .counts .next) ≡ true → (w .counts .next ≡ length log → ⊥)
+pub onward-line : (log : List ℕ) (w : Going) → length log ≤ longest → isPlace log (w .counts .next) ≡ true → (w .counts .next ≡ length log → ⊥)
     → onward log w ≡ going log w
 onward-line log w short place n =
     sym
@@ -78,7 +78,7 @@ fit-tallied log c b f h =
     (record { place = next-place log (c .next) (omega arith); inside = next-within log (c .next); few = omega arith; sum = omega arith; handed = omega arith })
     (omega arith)
 
-pub fit-within : (log : List ℕ) (c : Counts) → Fit log c → length log ≤ 65536 → Within c
+pub fit-within : (log : List ℕ) (c : Counts) → Fit log c → length log ≤ longest → Within c
 fit-within log c f h = record { lines = omega arith; blank = omega arith; accepted = omega arith; refused = omega arith }
 
 module _ (log : List ℕ) where
@@ -99,7 +99,7 @@ module _ (log : List ℕ) where
       let z : min n (length (lines (drop (w .counts .next) log))) ≡ 0 = omega arith in
       ap (λ (k : ℕ). steps k log w) z
 
-  pub go-more : (n : ℕ) (w : Going) → length log ≤ 65536 → isPlace log (w .counts .next) ≡ true → 0 < n → w .counts .next < length log
+  pub go-more : (n : ℕ) (w : Going) → length log ≤ longest → isPlace log (w .counts .next) ≡ true → 0 < n → w .counts .next < length log
       → goOn n w ≡ goOn (n - 1) (going log w)
   unfolding steps
   go-more n w short place pos h =
@@ -112,13 +112,13 @@ module _ (log : List ℕ) where
 
 -- the loop's invariant
 pub record Goes (log : List ℕ) (place allowance : ℕ) (g : Gatherer) (c : Counts) (a : Gatherer) : Type 0 where
-  pub short : length log ≤ 65536
+  pub short : length log ≤ longest
   pub fit : Fit log c
   pub within : c .lines ≤ allowance
   pub rows : length a ≡ length g
   pub same : goOn log allowance (begin place g) ≡ goOn log (allowance - c .lines) (record { counts = c; gatherer = a })
 
-pub goes-first : (log : List ℕ) (place allowance : ℕ) (g : Gatherer) → length log ≤ 65536 → isPlace log place ≡ true
+pub goes-first : (log : List ℕ) (place allowance : ℕ) (g : Gatherer) → length log ≤ longest → isPlace log place ≡ true
     → Goes log place allowance g (begin place g .counts) g
 goes-first log place allowance g short h =
     let z : allowance ≡ allowance - 0 = omega arith in
@@ -154,11 +154,11 @@ module _ (log : List ℕ) (place allowance : ℕ) (g : Gatherer) (c : Counts) (a
       }
 
   -- a turn of the code is a step at a line
-  module _ (a' : Gatherer) (t : Turn) (x : Turned log (c .next) a a' t) (u : Counts) (eu : u ≡ talliedBy c (t .sort) (t .next)) where
+  module _ (a' : Gatherer) (t : LineTaken) (x : Takes log (c .next) a a' t) (u : Counts) (eu : u ≡ talliedBy c (t .sort) (t .next)) where
     right : u ≡ lineTallied log c
     right = eu ∙ (λ i. talliedBy c (x .sort i) (x .next i)) ∙ by-sort c (nextPlace log (c .next)) (saidOf (lineAt log (c .next)))
 
-    pub few-groups : u .groups ≤ 65536
+    pub few-groups : u .groups ≤ longest
     few-groups =
         let e : u .groups ≡ c .groups = ap (λ (y : Counts). y .groups) right in
         omega (arith, now' .short, now' .fit)

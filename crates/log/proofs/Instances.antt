@@ -20,7 +20,7 @@ use Rattle.frame.specs.Digits.{digit, hex}
 use Rattle.frame.specs.Frame.{Parts, accepted, taken, known, sentenceType, checksumField, sentence, sized, frame}
 use Rattle.gsv.specs.Talker.{rowFor as rowOf}
 use Rattle.gsv.specs.Gsv.{Satellite, gsv as gsvData, entry, counted, cell, closing}
-use Rattle.sentence.specs.Sentence.{dispatch, answer, isRefused}
+use Rattle.answer.specs.Sentence.{formatterOf, dispatch, answer, isRefused}
 use Rattle.pack.specs.Cut.{more}
 use Rattle.short.specs.Digits.{digitsOf, digitsFor}
 use Rattle.short.specs.Texts.{entryText}
@@ -96,7 +96,7 @@ log-four = refl
 
 -- THE FIRST CLAUSE: the step hands out the group, so the definition does
 gives-first : Gives (stepAfter 1 log) (group 1 2)
-unfolding lines stretches trim answer dispatch frame sized sentence sentenceType checksumField taken known hex digit checksumFrom types alike listed follow utf8Step after ascii until char oneOf among letterOf _>>=_ pure opt alt orMiss number numberFrom rowOf gsvData entry counted cell closing many skip takeWhile1 eof allConsuming oneOf3 isPlace stretch rest lineAt nextPlace steps stepAt stepOf more digitsOf digitsFor entryText
+unfolding lines stretches trim answer dispatch formatterOf frame sized sentence sentenceType checksumField taken known hex digit checksumFrom types alike listed follow utf8Step after ascii until char oneOf among letterOf _>>=_ pure opt alt orMiss number numberFrom rowOf gsvData entry counted cell closing many skip takeWhile1 eof allConsuming oneOf3 isPlace stretch rest lineAt nextPlace steps stepAt stepOf more digitsOf digitsFor entryText
 gives-first = refl
 
 first-handed : HandedOut (told log) 1 (group 1 2)
@@ -104,19 +104,19 @@ first-handed = hands-out log (omega arith) 1 (omega (arith, log-four)) (group 1 
 
 -- THE SECOND CLAUSE, whole lines replaced: the run that was to end there hands out nothing
 broken-off : stepAfter 1 damaged .gathered .handed ≡ Nothing
-unfolding lines stretches trim answer dispatch frame sized sentence sentenceType checksumField taken known hex digit checksumFrom types alike listed follow utf8Step after ascii until char oneOf among letterOf _>>=_ pure opt alt orMiss number numberFrom rowOf gsvData entry counted cell closing many skip takeWhile1 eof allConsuming oneOf3 isPlace stretch rest lineAt nextPlace steps stepAt stepOf more digitsOf digitsFor entryText
+unfolding lines stretches trim answer dispatch formatterOf frame sized sentence sentenceType checksumField taken known hex digit checksumFrom types alike listed follow utf8Step after ascii until char oneOf among letterOf _>>=_ pure opt alt orMiss number numberFrom rowOf gsvData entry counted cell closing many skip takeWhile1 eof allConsuming oneOf3 isPlace stretch rest lineAt nextPlace steps stepAt stepOf more digitsOf digitsFor entryText
 broken-off = refl
 
 -- and from the system's next number 1 the groups are the same
 gives-later : Gives (stepAfter 3 log) (group 8 9)
-unfolding lines stretches trim answer dispatch frame sized sentence sentenceType checksumField taken known hex digit checksumFrom types alike listed follow utf8Step after ascii until char oneOf among letterOf _>>=_ pure opt alt orMiss number numberFrom rowOf gsvData entry counted cell closing many skip takeWhile1 eof allConsuming oneOf3 isPlace stretch rest lineAt nextPlace steps stepAt stepOf more digitsOf digitsFor entryText
+unfolding lines stretches trim answer dispatch formatterOf frame sized sentence sentenceType checksumField taken known hex digit checksumFrom types alike listed follow utf8Step after ascii until char oneOf among letterOf _>>=_ pure opt alt orMiss number numberFrom rowOf gsvData entry counted cell closing many skip takeWhile1 eof allConsuming oneOf3 isPlace stretch rest lineAt nextPlace steps stepAt stepOf more digitsOf digitsFor entryText
 gives-later = refl
 
 abbrev anew : Gsv Satellite
 anew = record { key = 0; n = 2; number = 1; view = 2; sats = satellite 8 ∷ [] }
 
 anew-stands : getD (told (bytes "$GPGSV,2,1,02,08,,,*70\n$GPGSV,2,2,02,09,,,*72\n")) 0 other ≡ gsv anew
-unfolding lines stretches trim answer dispatch frame sized sentence sentenceType checksumField taken known hex digit checksumFrom types alike listed follow utf8Step after ascii until char oneOf among letterOf _>>=_ pure opt alt orMiss number numberFrom rowOf gsvData entry counted cell closing many skip takeWhile1 eof allConsuming oneOf3
+unfolding lines stretches trim answer dispatch formatterOf frame sized sentence sentenceType checksumField taken known hex digit checksumFrom types alike listed follow utf8Step after ascii until char oneOf among letterOf _>>=_ pure opt alt orMiss number numberFrom rowOf gsvData entry counted cell closing many skip takeWhile1 eof allConsuming oneOf3
 anew-stands = refl
 
 log-index : length (says begun) + length (says ended) + 1 ≡ 3

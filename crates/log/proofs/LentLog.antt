@@ -16,7 +16,8 @@ use Rattle.lines.proofs.Split.{no-lines}
 use Rattle.lines.proofs.Append.{lines-append}
 use Rattle.lines.proofs.Alone.{alone}
 use Rattle.rows.specs.Key.{rowCount}
-use Rattle.sentence.specs.Sentence.{GsvSentence, answer, isGsv}
+use Rattle.gsv.specs.Gsv.{GsvSentence}
+use Rattle.answer.specs.Sentence.{answer, isGsv}
 use Rattle.short.specs.Room.{Written}
 use Rattle.short.proofs.Answered.{answered}
 use Rattle.gather.specs.Words.{openOf, stands}

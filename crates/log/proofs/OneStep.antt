@@ -8,43 +8,36 @@ use lib.ListN.{length}
 use Rattle.frame.specs.Refused.{logTooLong, badPlace}
 use Rattle.frame.specs.declared.refusal.Refusal.the-variants.{LogTooLong, BadPlace}
 use Rattle.lines.specs.Places.{isPlace, lineAt, nextPlace}
-use Rattle.rows.specs.Line.{lineOf}
-use Rattle.gather.specs.Table.{Gathers}
 use Rattle.gather.specs.declared.line.Outcome.{Outcome}
-use Rattle.gather.specs.declared.line.Outcome.the-variants.{Nothing}
 use Rattle.gsa.specs.Answer.{row}
-use Rattle.sentence.specs.Answer.{gsvSentence}
-use Rattle.sentence.specs.declared.GsvRecord.{GsvRecord}
-use Rattle.fed.specs.Line.{saidOf, gsvOf, Gatherer, Gathered, untouched, gathers}
-use Rattle.log.specs.declared.line.Found.{Found}
-use Rattle.log.specs.declared.line.Found.the-variants.{No, Is}
-use Rattle.log.specs.declared.line.Here.{Here}
+use Rattle.fed.specs.Line.{saidOf, gsvOf, Gatherer, gathers}
+use Rattle.log.specs.declared.line.LineAt.{LineAt}
 use Rattle.log.specs.declared.step.Stepped as Code
 use Rattle.log.specs.declared.step.Stepped.the-variants.{Refused, End, Line}
 use Rattle.log.specs.declared.step.StepAnswer.{StepAnswer}
-use Rattle.log.specs.Step.{refused, end, line, Stepped, idle, stepAt, stepOf}
-use Rattle.log.specs.Answer.{saidIn, foundIn, stepIn, besideStep, Cells, SaysStep, SaysHere}
-use Rattle.log.specs.Code.{idleOf}
+use Rattle.log.specs.Step.{longest, refused, end, line, Stepped, idle, stepAt, stepOf}
+use Rattle.log.specs.Answer.{lineIn, stepIn, besideStep, Cells, Follows, SaysStep}
+use Rattle.log.specs.Code.{SaysLine, idleOf}
 use Rattle.log.proofs.Places.{place-within}
-use Rattle.log.proofs.Adds.{found-is}
+use Rattle.log.proofs.Adds.{gsv-is}
 
 module _ (log : List ℕ) (p : ℕ) (g : Gatherer) where
-  pub good-place : length log ≤ 65536 → isPlace log p ≡ true → stepAt log p g ≡ stepOf log p g
+  pub good-place : length log ≤ longest → isPlace log p ≡ true → stepAt log p g ≡ stepOf log p g
   unfolding stepOf
-  good-place h e = simp (le-ltb 65536 (length log) h, e)
+  good-place h e = simp (le-ltb longest (length log) h, e)
 
   pub at-line : (p ≡ length log → ⊥)
       → _≡_ {A = Stepped} (record { answer = line (saidOf (lineAt log p)) (nextPlace log p); gathered = gathers g (gsvOf (saidOf (lineAt log p))) }) (stepAt log p g)
   unfolding stepAt
   at-line n = simp (ne-eqb p (length log) n)
 
-  long-log : 65536 < length log → idle (refused (logTooLong (length log))) g ≡ stepOf log p g
+  long-log : longest < length log → idle (refused (logTooLong (length log))) g ≡ stepOf log p g
   unfolding stepOf
-  long-log h = simp (lt-ltb 65536 (length log) h)
+  long-log h = simp (lt-ltb longest (length log) h)
 
-  bad-place : length log ≤ 65536 → isPlace log p ≡ false → idle (refused (badPlace p)) g ≡ stepOf log p g
+  bad-place : length log ≤ longest → isPlace log p ≡ false → idle (refused (badPlace p)) g ≡ stepOf log p g
   unfolding stepOf
-  bad-place h e = simp (le-ltb 65536 (length log) h, e)
+  bad-place h e = simp (le-ltb longest (length log) h, e)
 
   pub at-end : p ≡ length log → idle (end p) g ≡ stepAt log p g
   unfolding stepAt
@@ -58,16 +51,16 @@ idle-says x g {r} {s} e b f =
     (subst (λ (t : Stepped). SaysStep t g (idleOf x)) f
     (record { says = refl; beside = subst (λ (xs : List ℕ). Cells xs (row []) 0) (sym b) (record { are = refl; number = refl }); gathered = refl }))
 
--- the answer to a line that was found, with what it says of its row
-abbrev answered : Here → Outcome → StepAnswer
-answered h o = record { stepped = Line (h .said) (h .next); satellites = h .satellites; count = h .count; handed = o }
+-- the answer to a line, with what it says of its row
+abbrev answered : LineAt → Outcome → StepAnswer
+answered l o = record { stepped = Line (l .line) (l .next); satellites = l .satellites; count = l .count; handed = o }
 
 -- THE STEPS, as the code answers them
 module _ (log : List ℕ) (p : ℕ) (g : Gatherer) where
-  pub step-long : {r : StepAnswer} → 65536 < length log → r ≡ idleOf (Refused (LogTooLong (length log))) → SaysStep (stepOf log p g) g r
+  pub step-long : {r : StepAnswer} → longest < length log → r ≡ idleOf (Refused (LogTooLong (length log))) → SaysStep (stepOf log p g) g r
   step-long h e = idle-says (Refused (LogTooLong (length log))) g e refl (long-log log p g h)
 
-  module _ (short : length log ≤ 65536) {place : Bool} (tested : place ≡ isPlace log p) where
+  module _ (short : length log ≤ longest) {place : Bool} (tested : place ≡ isPlace log p) where
     pub step-bad : {r : StepAnswer} → not place ≡ true → r ≡ idleOf (Refused (BadPlace p)) → SaysStep (stepOf log p g) g r
     step-bad t e = idle-says (Refused (BadPlace p)) g e refl (bad-place log p g short (sym tested ∙ not-true place t))
 
@@ -81,23 +74,12 @@ module _ (log : List ℕ) (p : ℕ) (g : Gatherer) where
       pub step-end : {r : StepAnswer} → p ≡ length log → r ≡ idleOf (End p) → SaysStep (stepOf log p g) g r
       step-end n e = idle-says (End p) g e refl (at-end log p g n ∙ here)
 
-      module _ (n : p ≡ length log → ⊥) (h : Here) (sh : SaysHere log p h) (f : Found) (ef : foundIn f ≡ gsvOf (saidIn [] (h .said))) where
-        -- what the line that was found does
-        step-line : (a : Gathered) → a ≡ gathers g (foundIn f)
-            → SaysStep (stepOf log p g) (a .gatherer) (answered h (a .handed))
-        step-line a ea =
-            subst (λ (s : Stepped). SaysStep s (a .gatherer) (answered h (a .handed))) (at-line log p g n ∙ here)
-            (record {
-              says = λ i. line (sh .says i) (sh .next i);
-              beside = sh .beside;
-              gathered = ea ∙ ap (gathers g) (found-is log p h sh ef);
-            })
-
-        pub step-other : f ≡ No → SaysStep (stepOf log p g) g (answered h Nothing)
-        step-other e = step-line (untouched g) (sym (ap (λ (y : Found). gathers g (foundIn y)) e))
-
-        pub step-gsv : {q : GsvRecord} → f ≡ Is q → {t′ : List ℕ} {o : Outcome} → Gathers g t′ (lineOf (gsvSentence q)) o
-            → SaysStep (stepOf log p g) t′ (answered h o)
-        step-gsv e {t′} {o} x =
-            step-line (record { gatherer = t′; handed = o })
-            ((λ i. record { gatherer = x .words i; handed = x .says i }) ∙ sym (ap (λ (y : Found). gathers g (foundIn y)) e))
+      pub step-line : (p ≡ length log → ⊥) → (l : LineAt) → SaysLine log p l → {t′ : List ℕ} {o : Outcome} → Follows (gsvOf (lineIn [] (l .line))) g t′ o
+          → SaysStep (stepOf log p g) t′ (answered l o)
+      step-line n l says {t′} {o} x =
+          subst (λ (s : Stepped). SaysStep s t′ (answered l o)) (at-line log p g n ∙ here)
+          (record {
+            says = λ i. line (says .says i) (says .next i);
+            beside = says .beside;
+            gathered = (λ i. record { gatherer = x .words i; handed = x .says i }) ∙ ap (gathers g) (gsv-is log p l says);
+          })

@@ -11,7 +11,7 @@ use Rattle.utf8.specs.Utf8.{after, ascii}
 use Rattle.text.specs.Reader.{_>>=_, char}
 use Rattle.frame.specs.Refused.{Refused, logTooLong, badPlace}
 use Rattle.frame.specs.Frame.{sentence, sized, frame}
-use Rattle.sentence.specs.Sentence.{isRefused, answer}
+use Rattle.answer.specs.Sentence.{isRefused, answer}
 use Rattle.lines.specs.Places.{isPlace, lineAt, nextPlace}
 use Rattle.fed.specs.Line.{Said, blank, read, saidOf, gsvOf, Gatherer, untouched, gathers}
 use Rattle.log.specs.Step.{longest, Step, refused, end, line, Stepped, idle, stepAt, stepOf}

@@ -5,17 +5,19 @@ use mathlib.Core.List.{List, []}
 use mathlib.Core.Bool.{Bool, false}
 use lib.ListN.{length, take, drop}
 use Rattle.gsa.specs.Answer.{row}
-use Rattle.sentence.specs.Sentence.{isRmc, isGsa, isGsv, isOther, isRefused}
+use Rattle.answer.specs.Sentence.{isRmc, isGsa, isGsv, isOther, isRefused}
 use Rattle.lines.specs.Lines.{lineFeed}
 use Rattle.lines.specs.Places.{lineAt, nextPlace, stretch}
 use Rattle.gather.specs.declared.line.Outcome.the-variants.{Nothing}
 use Rattle.fed.specs.Line.{Said, blank, read, saidOf, gsvOf, gathers}
 use Rattle.fed.specs.Fed.{isHanded}
+use Rattle.log.specs.Step.{longest}
+use Rattle.log.specs.Answer.{lineIn, besideSaid, Cells}
+use Rattle.log.specs.declared.line.LineAt.{LineAt}
 use Rattle.log.specs.declared.step.Stepped.{Stepped}
 use Rattle.log.specs.declared.step.StepAnswer.{StepAnswer}
 use Rattle.log.specs.declared.walk.Counts.{Counts}
-use Rattle.log.specs.declared.walk.Taken.{Taken}
-use Rattle.log.specs.declared.walk.Turn.{Turn}
+use Rattle.log.specs.declared.walk.LineTaken.{LineTaken}
 use Rattle.log.specs.declared.walk.Sort.{Sort}
 use Rattle.log.specs.declared.walk.Sort.the-variants.{Blank, Accepted, Refused}
 
@@ -52,22 +54,22 @@ talliedBy c Accepted next =
 talliedBy c Refused next =
     record { lines = c .lines + 1; blank = c .blank; accepted = c .accepted; refused = c .refused + 1; groups = c .groups; next = next }
 
--- counts of a log of at most 65,536 bytes
+-- counts of a log that is not too long
 pub record Within (c : Counts) : Type 0 where
-  pub lines : c .lines ≤ 65536
-  pub blank : c .blank ≤ 65536
-  pub accepted : c .accepted ≤ 65536
-  pub refused : c .refused ≤ 65536
+  pub lines : c .lines ≤ longest
+  pub blank : c .blank ≤ longest
+  pub accepted : c .accepted ≤ longest
+  pub refused : c .refused ≤ longest
 
--- what a line counts as and does to the words
-pub record Took (s : Said) (t t′ : List ℕ) (r : Taken) : Type 0 where
-  pub sort : r .sort ≡ sortOf s
-  pub handed : r .handed ≡ isHanded (gathers t (gsvOf s) .handed)
-  pub words : t′ ≡ gathers t (gsvOf s) .gatherer
-
--- of the line at a place, with the place after it
-pub record Turned (log : List ℕ) (p : ℕ) (t t′ : List ℕ) (r : Turn) : Type 0 where
+-- what the line at a place counts as and does to the words, and the place after it
+pub record Takes (log : List ℕ) (p : ℕ) (t t′ : List ℕ) (r : LineTaken) : Type 0 where
   pub sort : r .sort ≡ sortOf (saidOf (lineAt log p))
   pub handed : r .handed ≡ isHanded (gathers t (gsvOf (saidOf (lineAt log p))) .handed)
   pub words : t′ ≡ gathers t (gsvOf (saidOf (lineAt log p))) .gatherer
+  pub next : r .next ≡ nextPlace log p
+
+-- the line at a place that is not the end, and the place after it
+pub record SaysLine (log : List ℕ) (p : ℕ) (r : LineAt) : Type 0 where
+  pub says : lineIn (take (r .count) (r .satellites)) (r .line) ≡ saidOf (lineAt log p)
+  pub beside : Cells (besideSaid (saidOf (lineAt log p))) (r .satellites) (r .count)
   pub next : r .next ≡ nextPlace log p

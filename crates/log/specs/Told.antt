@@ -3,10 +3,9 @@ use Prim.Native.Nat.{ℕ}
 use mathlib.Core.List.{List}
 use mathlib.Core.Path.{_≡_}
 use mathlib.Core.Option.{Option, none, some}
-use Rattle.gsv.specs.Gsv.{Satellite}
+use Rattle.gsv.specs.Gsv.{Satellite, GsvSentence}
 use Rattle.groups.specs.Log.{Line, Handed}
 use Rattle.lines.specs.Lines.{lines}
-use Rattle.sentence.specs.Sentence.{GsvSentence}
 use Rattle.gather.specs.Table.{freshTable}
 use Rattle.fed.specs.Line.{Said, saidAll, gsvOf}
 use Rattle.fed.specs.Seen.{seenOf, givenBy}

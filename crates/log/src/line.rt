@@ -1,20 +1,13 @@
 // Places and lines of a log.
 ghost use mathlib.Core.Path.{_≡_};
-ghost use mathlib.Core.List.{[]};
 ghost use Prim.Native.Nat.{_+_, _≤_, _<_, min};
 ghost use lib.ListN.{length, drop};
 ghost use Rattle.lines.specs.Places.{isPlace, stretch};
-ghost use Rattle.fed.specs.Line.{gsvOf};
-ghost use Rattle.log.specs.Answer.{saidIn, foundIn, SaysHere};
-ghost use Rattle.log.specs.Code.{CutAt, Saw, Clear};
-use sentence::GsvRecord;
+ghost use Rattle.log.specs.Code.{SaysLine, CutAt, Saw, Clear};
 use sentence::Record;
 
 // A log has at most this many bytes.
 pub const LONGEST: usize = 65536;
-
-// How many satellites stand beside a line's answer.
-pub const CELLS: usize = 18;
 
 // Whether a step can begin there: 0, the length, or just after a line feed.
 pub fn is_place(log: &[u8], place: usize) -> bool
@@ -115,67 +108,46 @@ pub(crate) fn line_next(log: &[u8], end: usize) -> usize
 }
 
 // What a line of the log is.
-pub enum Said {
+pub enum Line {
     Blank,
     Read(Record),
 }
 
 // The line at a place, the satellites beside its answer, and the place after it.
-pub struct Here {
-    pub said: Said,
-    pub satellites: [u32; CELLS],
+pub struct LineAt {
+    pub line: Line,
+    pub satellites: [u32; gsa::SATELLITES],
     pub count: usize,
     pub next: usize,
 }
 
 // The line at a place that is not the end.
-pub(crate) fn line_here(log: &[u8], at: usize) -> Here
+pub(crate) fn line_at(log: &[u8], at: usize) -> LineAt
     requires { ⌜ at < length (now log) ⌝ }
-    ensures { λ r. ⌜ SaysHere (now (log .entry)) at r ⌝ }
+    ensures { λ r. ⌜ SaysLine (now (log .entry)) at r ⌝ }
 {
     let end = line_end(log, at);
     let cut = line_cut(log, at, end);
     let next = line_next(log, end);
     if cut == at {
-        let said = Said::Blank;
-        return Here {
-            said,
-            satellites: [0u32; CELLS],
+        let line = Line::Blank;
+        return LineAt {
+            line,
+            satellites: [0u32; gsa::SATELLITES],
             count: 0,
             next,
         };
     }
-    let line = &log[at..cut];
-    let read = sentence::parse_bytes(line);
+    let text = &log[at..cut];
+    let read = sentence::parse_bytes(text);
     let answer = read.answer;
     let satellites = read.satellites;
     let count = read.count;
-    let said = Said::Read(answer);
-    Here {
-        said,
+    let line = Line::Read(answer);
+    LineAt {
+        line,
         satellites,
         count,
         next,
-    }
-}
-
-// An accepted GSV line, or none.
-pub enum Found {
-    No,
-    Is(GsvRecord),
-}
-
-pub(crate) fn gsv_of(said: Said) -> Found
-    ensures { λ r. ⌜ foundIn r ≡ gsvOf (saidIn [] said) ⌝ }
-{
-    match said {
-        Said::Blank => Found::No,
-        Said::Read(a) => match a {
-            Record::Rmc(_) => Found::No,
-            Record::Gsa(_) => Found::No,
-            Record::Gsv(r) => Found::Is(r),
-            Record::Other(_) => Found::No,
-            Record::Refused(_) => Found::No,
-        },
     }
 }

@@ -3,9 +3,9 @@ ghost use mathlib.Core.Path.{_≡_};
 ghost use Rattle.log.specs.Step.{stepOf};
 ghost use Rattle.log.specs.Answer.{SaysStep};
 ghost use Rattle.log.specs.Code.{idleOf};
+use crate::follow::follow_line;
 use crate::line;
-use crate::line::Found;
-use crate::line::Said;
+use crate::line::Line;
 use frame::Refusal;
 use gather::line::Outcome;
 
@@ -13,13 +13,13 @@ use gather::line::Outcome;
 pub enum Stepped {
     Refused(Refusal),
     End(usize),
-    Line(Said, usize),
+    Line(Line, usize),
 }
 
 // One step's answer. Where its row is complete, the words of the row are the group.
 pub struct StepAnswer {
     pub stepped: Stepped,
-    pub satellites: [u32; line::CELLS],
+    pub satellites: [u32; gsa::SATELLITES],
     pub count: usize,
     pub handed: Outcome,
 }
@@ -31,7 +31,7 @@ fn idle(stepped: Stepped) -> StepAnswer
     let handed = Outcome::Nothing;
     StepAnswer {
         stepped: stepped,
-        satellites: [0u32; line::CELLS],
+        satellites: [0u32; gsa::SATELLITES],
         count: 0,
         handed: handed,
     }
@@ -50,23 +50,13 @@ pub fn step(log: &[u8], place: usize, words: &mut [u32]) -> StepAnswer
     if place == log.len() {
         return idle(Stepped::End(place));
     }
-    let h = line::line_here(log, place);
-    let said = h.said;
+    let h = line::line_at(log, place);
+    let line = h.line;
     let satellites = h.satellites;
     let count = h.count;
     let next = h.next;
-    let stepped = Stepped::Line(said, next);
-    let found = line::gsv_of(said);
-    let Found::Is(report) = found else {
-        let handed = Outcome::Nothing;
-        return StepAnswer {
-            stepped: stepped,
-            satellites: satellites,
-            count: count,
-            handed: handed,
-        };
-    };
-    let handed = gather::table::gather(&mut *words, report);
+    let stepped = Stepped::Line(line, next);
+    let handed = follow_line(line, &mut *words);
     StepAnswer {
         stepped: stepped,
         satellites: satellites,

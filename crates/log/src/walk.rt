@@ -7,9 +7,11 @@ ghost use Rattle.gather.specs.Table.{freshTable};
 ghost use Rattle.sentence.specs.Answer.{recordOf};
 ghost use Rattle.fed.specs.Line.{read};
 ghost use Rattle.fed.specs.Fed.{isHanded};
+ghost use Rattle.log.specs.Step.{longest};
 ghost use Rattle.log.specs.Walk.{grouped, walkOf};
 ghost use Rattle.log.specs.Answer.{walkIn, SaysWalk};
-ghost use Rattle.log.specs.Code.{talliedBy, Within, Took, Turned};
+ghost use Rattle.log.specs.Code.{sortOf, talliedBy, Within, Takes};
+use crate::follow::follow;
 use crate::line;
 use frame::Refusal;
 use gather::line::Outcome;
@@ -73,7 +75,7 @@ pub(crate) fn tally(c: Counts, sort: Sort, next: usize) -> Counts
 }
 
 pub(crate) fn with_group(c: Counts, handed: bool) -> Counts
-    requires { ⌜ c .groups ≤ 65536 ⌝ }
+    requires { ⌜ c .groups ≤ longest ⌝ }
     ensures { λ r. ⌜ r ≡ grouped c handed ⌝ }
 {
     if handed {
@@ -101,62 +103,37 @@ fn is_handed(o: Outcome) -> bool
     }
 }
 
-// What a line counts as, and whether it hands out a group.
-pub struct Taken {
-    pub sort: Sort,
-    pub handed: bool,
-}
-
-// What a record counts as and does to the table.
-fn take(answer: Record, words: &mut [u32]) -> Taken
-    ensures { λ r. ⌜ Took (read (recordOf [] answer)) (now (words .entry)) (now (words .exit)) r ⌝ }
+// What a line's answer counts as.
+fn sort_of(answer: Record) -> Sort
+    ensures { λ r. ⌜ r ≡ sortOf (read (recordOf [] answer)) ⌝ }
 {
     match answer {
-        Record::Rmc(_) => Taken {
-            sort: Sort::Accepted,
-            handed: false,
-        },
-        Record::Gsa(_) => Taken {
-            sort: Sort::Accepted,
-            handed: false,
-        },
-        Record::Gsv(report) => {
-            let out = gather::table::gather(&mut *words, report);
-            let handed = is_handed(out);
-            Taken {
-                sort: Sort::Accepted,
-                handed: handed,
-            }
-        }
-        Record::Other(_) => Taken {
-            sort: Sort::Accepted,
-            handed: false,
-        },
-        Record::Refused(_) => Taken {
-            sort: Sort::Refused,
-            handed: false,
-        },
+        Record::Rmc(_) => Sort::Accepted,
+        Record::Gsa(_) => Sort::Accepted,
+        Record::Gsv(_) => Sort::Accepted,
+        Record::Other(_) => Sort::Accepted,
+        Record::Refused(_) => Sort::Refused,
     }
 }
 
-// The same of the line at a place, and the place after it.
-pub struct Turn {
+// What the line at a place counts as, whether it hands out a group, and the place after it.
+pub struct LineTaken {
     pub sort: Sort,
     pub handed: bool,
     pub next: usize,
 }
 
 // The line at a place that is not the end. It goes from the reader to the table at once: a step's answer would be copied on the way.
-fn advance(log: &[u8], at: usize, words: &mut [u32]) -> Turn
+fn take_line(log: &[u8], at: usize, words: &mut [u32]) -> LineTaken
     requires { ⌜ at < length (now log) ⌝ }
-    ensures { λ r. ⌜ Turned (now (log .entry)) at (now (words .entry)) (now (words .exit)) r ⌝ }
+    ensures { λ r. ⌜ Takes (now (log .entry)) at (now (words .entry)) (now (words .exit)) r ⌝ }
 {
     let end = line::line_end(log, at);
     let cut = line::line_cut(log, at, end);
     let next = line::line_next(log, end);
     if cut == at {
         let sort = Sort::Blank;
-        return Turn {
+        return LineTaken {
             sort: sort,
             handed: false,
             next: next,
@@ -164,11 +141,12 @@ fn advance(log: &[u8], at: usize, words: &mut [u32]) -> Turn
     }
     let read = sentence::parse_bytes(&log[at..cut]);
     let answer = read.answer;
-    let taken = take(answer, &mut *words);
-    let sort = taken.sort;
-    Turn {
+    let sort = sort_of(answer);
+    let outcome = follow(answer, &mut *words);
+    let handed = is_handed(outcome);
+    LineTaken {
         sort: sort,
-        handed: taken.handed,
+        handed: handed,
         next: next,
     }
 }
@@ -196,7 +174,7 @@ pub fn walk(log: &[u8], place: usize, allowance: usize, words: &mut [u32]) -> Wa
         if log.len() <= at {
             break;
         }
-        let t = advance(log, at, &mut *words);
+        let t = take_line(log, at, &mut *words);
         let sort = t.sort;
         let next = t.next;
         c = tally(c, sort, next);

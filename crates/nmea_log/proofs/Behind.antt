@@ -4,7 +4,7 @@ use native.Mathlib.Omega.{arith}
 use mathlib.Core.List.{List}
 use mathlib.Core.Path.{_≡_, subst}
 use lib.ListN.{length}
-use Rattle.nmea_log.specs.Filled.{Brings, Fits}
+use Rattle.nmea_log.specs.Code.{Brings, Fits}
 use Rattle.nmea_log.specs.declared.Got.{Got}
 use Rattle.nmea_log.specs.declared.Got.the-variants.{More, End, Failed}
 use Rattle.nmea_log.specs.declared.Filled as Code

@@ -1,5 +1,5 @@
 // Counts a log that it reads from standard input: its lines, of these blank, accepted and refused, and its satellite groups.
-ghost use Rattle.nmea_log.specs.Filled.{Brings, Fits};
+ghost use Rattle.nmea_log.specs.Code.{Brings, Fits};
 use frame::Refusal;
 use libc::STDIN_FILENO;
 use libc::STDOUT_FILENO;

@@ -8,10 +8,10 @@ use mathlib.Core.Option.{none}
 use lib.Dec.{ltb}
 use lib.ListN.{length}
 use borrow.Author.Tests.{ltb-true, ltb-false}
-use Rattle.sentence.specs.Sentence.{answer, verdictOf}
+use Rattle.answer.specs.Sentence.{answer, verdictOf}
 use Rattle.gather.specs.Table.{freshTable}
 use Rattle.log.specs.Walk.{Walk, barred, went, walkOf}
-use Rattle.capi.specs.Layout.{refusalNumber}
+use Rattle.words.specs.Words.{refusalNumber}
 use Rattle.capi.specs.Answer.{Answered}
 use Rattle.capi.specs.Totals.{Tells, WalkedAll}
 use Rattle.capi.specs.Lend.{Freshened, GatheredLine, RowRead}
@@ -39,8 +39,7 @@ pub nmea-refusal : (line : List ℕ) {r q : ℕ}
 nmea-refusal line x y = same (x .0) (y .0)
 
 pub nmea-answer : (line out : List ℕ) {l m : List ℕ} {r q : ℕ} → Answered line out l r → Answered line out m q → (r ≡ q) × (l ≡ m)
-nmea-answer line out x y =
-    by-room 40 (length out) (λ h. both (x .written h) (y .written h)) (λ h. both (x .short h) (y .short h))
+nmea-answer line out x y = (same (x .says) (y .says), same (x .words) (y .words))
 
 pub nmea-walk : (log out : List ℕ) {l m : List ℕ} {r q : ℕ} → WalkedAll log out l r → WalkedAll log out m q → (r ≡ q) × (l ≡ m)
 nmea-walk log out x y =

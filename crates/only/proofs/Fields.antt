@@ -10,27 +10,36 @@ use Rattle.fields.specs.Time.{Time, hms, optHms}
 use Rattle.fields.specs.Date.{Date, date, optDate}
 use Rattle.fields.specs.Position.{Position, LatLon, doLatLon, latLon}
 use Rattle.fields.specs.Variation.{doVariation, variation}
-use Rattle.fields.specs.Answer.{timeRead, timeAt, dateRead, dateAt, bothAt, placeAt, magneticAt, variationAt}
+use Rattle.fields.specs.Place.{timePlace, datePlace, positionPlace, shortPlace}
+use Rattle.fields.specs.Answer.{timeRead, timeHeld, timeAt, dateRead, dateHeld, dateAt, bothAt, positionHeld, positionAt, magneticAt, shortHeld, shortPlaceAt}
 use Rattle.fields.specs.declared.time.TimeOfDay.{TimeOfDay}
 use Rattle.fields.specs.declared.time.TimeRead.{TimeRead}
 use Rattle.fields.specs.declared.time.TimeRead.the-variants.{No as NoTime, Is as ATime, Number as TimeNumber, BadTime as TimeBad}
+use Rattle.fields.specs.declared.time.TimeHeld.{TimeHeld}
+use Rattle.fields.specs.declared.time.TimeHeld.the-variants.{Absent as Untimed, Is as Timed}
 use Rattle.fields.specs.declared.time.TimeAt.{TimeAt}
-use Rattle.fields.specs.declared.time.TimeAt.the-variants.{Absent as Untimed, Is as Timed, Number as AtNumber, BadTime as AtBad}
+use Rattle.fields.specs.declared.time.TimeAt.the-variants.{No as NoTimeAt, Is as TimeIs, Number as AtNumber, BadTime as AtBad}
 use Rattle.fields.specs.declared.date.Day.{Day}
 use Rattle.fields.specs.declared.date.DateRead.{DateRead}
 use Rattle.fields.specs.declared.date.DateRead.the-variants.{No as NoDate, Is as ADate}
+use Rattle.fields.specs.declared.date.DateHeld.{DateHeld}
+use Rattle.fields.specs.declared.date.DateHeld.the-variants.{Absent as Undated, Is as Dated}
 use Rattle.fields.specs.declared.date.DateAt.{DateAt}
-use Rattle.fields.specs.declared.date.DateAt.the-variants.{Absent as Undated, Is as Dated}
+use Rattle.fields.specs.declared.date.DateAt.the-variants.{No as NoDateAt, Is as DateIs}
 use Rattle.fields.specs.declared.position.Coordinate.{Coordinate}
 use Rattle.fields.specs.declared.position.Both.{Both}
 use Rattle.fields.specs.declared.position.BothAt.{BothAt}
 use Rattle.fields.specs.declared.position.BothAt.the-variants.{No as NoBoth, Is as ABoth, Number as BothNumber}
-use Rattle.fields.specs.declared.position.PlaceAt.{PlaceAt}
-use Rattle.fields.specs.declared.position.PlaceAt.the-variants.{No as NoPlace, Absent as Unplaced, Is as APlace, Number as PlaceNumber}
+use Rattle.fields.specs.declared.position.PositionHeld.{PositionHeld}
+use Rattle.fields.specs.declared.position.PositionHeld.the-variants.{Absent as Unplaced, Is as Located}
+use Rattle.fields.specs.declared.position.PositionAt.{PositionAt}
+use Rattle.fields.specs.declared.position.PositionAt.the-variants.{No as NoPosition, Is as PositionIs, Number as PositionNumber}
 use Rattle.fields.specs.declared.variation.MagneticAt.{MagneticAt}
 use Rattle.fields.specs.declared.variation.MagneticAt.the-variants.{No as NoMagnetic, Is as AMagnetic, Number as MagneticNumber}
-use Rattle.fields.specs.declared.variation.VariationAt.{VariationAt}
-use Rattle.fields.specs.declared.variation.VariationAt.the-variants.{No as NoVariation, Absent as Unvaried, Is as AVariation, Number as VariationNumber}
+use Rattle.fields.specs.declared.place.ShortHeld.{ShortHeld}
+use Rattle.fields.specs.declared.place.ShortHeld.the-variants.{Absent as NoShort, Is as AShort}
+use Rattle.fields.specs.declared.place.ShortPlace.{ShortPlace}
+use Rattle.fields.specs.declared.place.ShortPlace.the-variants.{No as NoShortPlace, Is as ShortIs, Number as ShortNumber}
 use Rattle.only.proofs.Laws.{undone, reads}
 use Rattle.only.proofs.Decimal.{short-of}
 
@@ -60,20 +69,28 @@ time-read-is TimeNumber = refl
 time-read-is TimeBad = refl
 time-read-is (ATime t p) = refl
 
+pub time-held : Option Time → TimeHeld
+time-held none = Untimed
+time-held (some t) = Timed (time-of t)
+
+pub time-held-is : (r : TimeHeld) → time-held (timeHeld r) ≡ r
+unfolding time-held
+time-held-is Untimed = refl
+time-held-is (Timed t) = refl
+
 time-at : Placed (Option Time) → TimeAt
-time-at unread = AtNumber
-time-at (refused UnknownType) = AtNumber
+time-at unread = NoTimeAt
+time-at (refused UnknownType) = NoTimeAt
 time-at (refused Number) = AtNumber
 time-at (refused BadTime) = AtBad
-time-at (upto none p) = Untimed p
-time-at (upto (some t) p) = Timed (time-of t) p
+time-at (upto t p) = TimeIs (time-held t) p
 
 time-at-is : (r : TimeAt) → time-at (timeAt r) ≡ r
 unfolding time-at
+time-at-is NoTimeAt = refl
 time-at-is AtNumber = refl
 time-at-is AtBad = refl
-time-at-is (Untimed p) = refl
-time-at-is (Timed t p) = refl
+time-at-is (TimeIs t p) = λ i. TimeIs (time-held-is t i) p
 
 date-read : Placed Date → DateRead
 date-read unread = NoDate
@@ -85,16 +102,24 @@ unfolding date-read
 date-read-is NoDate = refl
 date-read-is (ADate d p) = refl
 
+pub date-held : Option Date → DateHeld
+date-held none = Undated
+date-held (some d) = Dated (day-of d)
+
+pub date-held-is : (r : DateHeld) → date-held (dateHeld r) ≡ r
+unfolding date-held
+date-held-is Undated = refl
+date-held-is (Dated d) = refl
+
 date-at : Placed (Option Date) → DateAt
-date-at unread = Undated 0
-date-at (refused f) = Undated 0
-date-at (upto none p) = Undated p
-date-at (upto (some d) p) = Dated (day-of d) p
+date-at unread = NoDateAt
+date-at (refused f) = NoDateAt
+date-at (upto d p) = DateIs (date-held d) p
 
 date-at-is : (r : DateAt) → date-at (dateAt r) ≡ r
 unfolding date-at
-date-at-is (Undated p) = refl
-date-at-is (Dated d p) = refl
+date-at-is NoDateAt = refl
+date-at-is (DateIs d p) = λ i. DateIs (date-held-is d i) p
 
 both-at : Placed LatLon → BothAt
 both-at unread = NoBoth
@@ -107,18 +132,25 @@ both-at-is NoBoth = refl
 both-at-is BothNumber = refl
 both-at-is (ABoth b p) = refl
 
-place-at : Placed (Option LatLon) → PlaceAt
-place-at unread = NoPlace
-place-at (refused f) = PlaceNumber
-place-at (upto none p) = Unplaced p
-place-at (upto (some b) p) = APlace (both-of b) p
+pub position-held : Option LatLon → PositionHeld
+position-held none = Unplaced
+position-held (some b) = Located (both-of b)
 
-place-at-is : (r : PlaceAt) → place-at (placeAt r) ≡ r
-unfolding place-at
-place-at-is NoPlace = refl
-place-at-is PlaceNumber = refl
-place-at-is (Unplaced p) = refl
-place-at-is (APlace b p) = refl
+pub position-held-is : (r : PositionHeld) → position-held (positionHeld r) ≡ r
+unfolding position-held
+position-held-is Unplaced = refl
+position-held-is (Located b) = refl
+
+position-at : Placed (Option LatLon) → PositionAt
+position-at unread = NoPosition
+position-at (refused f) = PositionNumber
+position-at (upto b p) = PositionIs (position-held b) p
+
+position-at-is : (r : PositionAt) → position-at (positionAt r) ≡ r
+unfolding position-at
+position-at-is NoPosition = refl
+position-at-is PositionNumber = refl
+position-at-is (PositionIs b p) = λ i. PositionIs (position-held-is b i) p
 
 magnetic-at : Placed Short → MagneticAt
 magnetic-at unread = NoMagnetic
@@ -131,18 +163,25 @@ magnetic-at-is NoMagnetic = refl
 magnetic-at-is MagneticNumber = refl
 magnetic-at-is (AMagnetic d p) = refl
 
-variation-at : Placed (Option Short) → VariationAt
-variation-at unread = NoVariation
-variation-at (refused f) = VariationNumber
-variation-at (upto none p) = Unvaried p
-variation-at (upto (some d) p) = AVariation (short-of d) p
+pub short-held : Option Short → ShortHeld
+short-held none = NoShort
+short-held (some d) = AShort (short-of d)
 
-variation-at-is : (r : VariationAt) → variation-at (variationAt r) ≡ r
-unfolding variation-at
-variation-at-is NoVariation = refl
-variation-at-is VariationNumber = refl
-variation-at-is (Unvaried p) = refl
-variation-at-is (AVariation d p) = refl
+pub short-held-is : (r : ShortHeld) → short-held (shortHeld r) ≡ r
+unfolding short-held
+short-held-is NoShort = refl
+short-held-is (AShort d) = refl
+
+short-at : Placed (Option Short) → ShortPlace
+short-at unread = NoShortPlace
+short-at (refused f) = ShortNumber
+short-at (upto d p) = ShortIs (short-held d) p
+
+short-at-is : (r : ShortPlace) → short-at (shortPlaceAt r) ≡ r
+unfolding short-at
+short-at-is NoShortPlace = refl
+short-at-is ShortNumber = refl
+short-at-is (ShortIs d p) = λ i. ShortIs (short-held-is d i) p
 
 pub parse-hms : (s : List ℕ) (at : ℕ) {r q : TimeRead} → Reads s at hms (timeRead r) → Reads s at hms (timeRead q) → r ≡ q
 parse-hms s at x y = undone timeRead time-read time-read-is (reads x y)
@@ -159,11 +198,23 @@ opt-date s at x y = undone dateAt date-at date-at-is (reads x y)
 pub do-parse-lat-lon : (s : List ℕ) (at : ℕ) {r q : BothAt} → Reads s at doLatLon (bothAt r) → Reads s at doLatLon (bothAt q) → r ≡ q
 do-parse-lat-lon s at x y = undone bothAt both-at both-at-is (reads x y)
 
-pub parse-lat-lon : (s : List ℕ) (at : ℕ) {r q : PlaceAt} → Reads s at latLon (placeAt r) → Reads s at latLon (placeAt q) → r ≡ q
-parse-lat-lon s at x y = undone placeAt place-at place-at-is (reads x y)
+pub parse-lat-lon : (s : List ℕ) (at : ℕ) {r q : PositionAt} → Reads s at latLon (positionAt r) → Reads s at latLon (positionAt q) → r ≡ q
+parse-lat-lon s at x y = undone positionAt position-at position-at-is (reads x y)
 
 pub do-parse-magnetic-variation : (s : List ℕ) (at : ℕ) {r q : MagneticAt} → Reads s at doVariation (magneticAt r) → Reads s at doVariation (magneticAt q) → r ≡ q
 do-parse-magnetic-variation s at x y = undone magneticAt magnetic-at magnetic-at-is (reads x y)
 
-pub parse-magnetic-variation : (s : List ℕ) (at : ℕ) {r q : VariationAt} → Reads s at variation (variationAt r) → Reads s at variation (variationAt q) → r ≡ q
-parse-magnetic-variation s at x y = undone variationAt variation-at variation-at-is (reads x y)
+pub parse-magnetic-variation : (s : List ℕ) (at : ℕ) {r q : ShortPlace} → Reads s at variation (shortPlaceAt r) → Reads s at variation (shortPlaceAt q) → r ≡ q
+parse-magnetic-variation s at x y = undone shortPlaceAt short-at short-at-is (reads x y)
+
+pub time-place : (s : List ℕ) (at : ℕ) {r q : TimeAt} → Reads s at timePlace (timeAt r) → Reads s at timePlace (timeAt q) → r ≡ q
+time-place s at x y = undone timeAt time-at time-at-is (reads x y)
+
+pub date-place : (s : List ℕ) (at : ℕ) {r q : DateAt} → Reads s at datePlace (dateAt r) → Reads s at datePlace (dateAt q) → r ≡ q
+date-place s at x y = undone dateAt date-at date-at-is (reads x y)
+
+pub position-place : (s : List ℕ) (at : ℕ) {r q : PositionAt} → Reads s at positionPlace (positionAt r) → Reads s at positionPlace (positionAt q) → r ≡ q
+position-place s at x y = undone positionAt position-at position-at-is (reads x y)
+
+pub short-place : (s : List ℕ) (at : ℕ) {r q : ShortPlace} → Reads s at shortPlace (shortPlaceAt r) → Reads s at shortPlace (shortPlaceAt q) → r ≡ q
+short-place s at x y = undone shortPlaceAt short-at short-at-is (reads x y)

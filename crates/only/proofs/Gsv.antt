@@ -3,10 +3,15 @@ use Prim.Native.Nat.{ℕ}
 use mathlib.Core.Path.{_≡_, refl, ap}
 use mathlib.Core.List.{List}
 use mathlib.Core.Option.{Option, none, some}
+use lib.ListN.{getD}
 use Rattle.text.specs.Value.{Value, syntax, fault, is, value}
-use Rattle.gsv.specs.Talker.{System, beidou, galileo, gps, glonass, navic, qzss, systemOf}
-use Rattle.gsv.specs.Gsv.{Satellite, Gsv, gsv}
-use Rattle.gsv.specs.Answer.{gnss, talker, satellite, slot, gsvData, gsvRead}
+use Rattle.gsv.specs.Talker.{Talker, ga, gp, gl, bd, gb, gi, gq, pq, qz, talkerOf, lettersOf, System, gps, glonass, galileo, beidou, qzss, navic, systemOf, systemNumber}
+use Rattle.gsv.specs.Gsv.{Satellite, Gsv, gsv, GsvSentence}
+use Rattle.gsv.specs.Answer.{talker, talkerRead, letters, gnss, satellite, slot, gsvData, gsvRead, gsvSentence}
+use Rattle.gsv.specs.declared.GsvTalker.{GsvTalker}
+use Rattle.gsv.specs.declared.GsvTalker.the-variants.{Ga, Gp, Gl, Bd, Gb, Gi, Gq, Pq, Qz}
+use Rattle.gsv.specs.declared.Letters.{Letters}
+use Rattle.gsv.specs.declared.GsvRecord.{GsvRecord}
 use Rattle.gsv.specs.declared.TalkerOf.{TalkerOf}
 use Rattle.gsv.specs.declared.TalkerOf.the-variants.{Unknown, Is as Names}
 use Rattle.gsv.specs.declared.Slot.{Slot}
@@ -45,14 +50,40 @@ unfolding info-of
 info-is r =
     λ i. record { id = r .id; elevation = held-is (r .elevation) i; azimuth = held-is (r .azimuth) i; signal = held-is (r .signal) i }
 
-talker-of : Option System → TalkerOf
-talker-of none = Unknown
-talker-of (some s) = Names (system-of s)
+pub talker-back : Talker → GsvTalker
+talker-back ga = Ga
+talker-back gp = Gp
+talker-back gl = Gl
+talker-back bd = Bd
+talker-back gb = Gb
+talker-back gi = Gi
+talker-back gq = Gq
+talker-back pq = Pq
+talker-back qz = Qz
 
-talker-is : (r : TalkerOf) → talker-of (talker r) ≡ r
-unfolding talker-of
-talker-is Unknown = refl
-talker-is (Names g) = ap Names (system-is g)
+pub talker-is : (r : GsvTalker) → talker-back (talker r) ≡ r
+unfolding talker-back
+talker-is Ga = refl
+talker-is Gp = refl
+talker-is Gl = refl
+talker-is Bd = refl
+talker-is Gb = refl
+talker-is Gi = refl
+talker-is Gq = refl
+talker-is Pq = refl
+talker-is Qz = refl
+
+named-of : Option Talker → TalkerOf
+named-of none = Unknown
+named-of (some t) = Names (talker-back t)
+
+named-is : (r : TalkerOf) → named-of (talkerRead r) ≡ r
+unfolding named-of
+named-is Unknown = refl
+named-is (Names t) = ap Names (talker-is t)
+
+letters-back : List ℕ → Letters
+letters-back l = record { 0 = getD l 0 0; 1 = getD l 1 0 }
 
 slot-of : Option Satellite → Slot
 slot-of none = Empty
@@ -99,8 +130,26 @@ unfolding read-of
 read-is Syntax = refl
 read-is (AGsv g) = ap AGsv (gsv-is g)
 
-pub gnss-type : (a b : ℕ) {r q : TalkerOf} → talker r ≡ systemOf a b → talker q ≡ systemOf a b → r ≡ q
-gnss-type a b x y = undone talker talker-of talker-is (same x y)
+pub talker-of : (a b : ℕ) {r q : TalkerOf} → talkerRead r ≡ talkerOf a b → talkerRead q ≡ talkerOf a b → r ≡ q
+talker-of a b x y = undone talkerRead named-of named-is (same x y)
+
+pub letters-of : (t : GsvTalker) {r q : Letters} → letters r ≡ lettersOf (talker t) → letters q ≡ lettersOf (talker t) → r ≡ q
+unfolding letters-back
+letters-of t x y = undone letters letters-back (λ r. refl) (same x y)
+
+pub gnss-type : (t : GsvTalker) {r q : GnssType} → gnss r ≡ systemOf (talker t) → gnss q ≡ systemOf (talker t) → r ≡ q
+gnss-type t x y = undone gnss system-of system-is (same x y)
+
+pub system-number : (g : GnssType) {r q : ℕ} → r ≡ systemNumber (gnss g) → q ≡ systemNumber (gnss g) → r ≡ q
+system-number g = same
 
 pub do-parse-gsv : (s : List ℕ) {r q : GsvRead} → gsvRead r ≡ value (gsv s) → gsvRead q ≡ value (gsv s) → r ≡ q
 do-parse-gsv s x y = undone gsvRead read-of read-is (same x y)
+
+-- a record of the two
+pub gsv-record : GsvSentence → GsvRecord
+gsv-record g = record { talker = talker-back (g .talker); «data» = gsv-of (g .body) }
+
+pub gsv-record-is : (g : GsvRecord) → gsv-record (gsvSentence g) ≡ g
+unfolding gsv-record
+gsv-record-is g = λ i. record { talker = talker-is (g .talker) i; «data» = gsv-is (g .data) i }

@@ -7,8 +7,8 @@ use Rattle.frame.specs.Answer.{dataOf}
 use Rattle.frame.specs.declared.refusal.Talker.{Talker}
 use Rattle.frame.specs.declared.refusal.Kind.{Kind}
 use Rattle.frame.specs.declared.sentence.Sentence.{Sentence}
-use Rattle.held.specs.Calculated.{sumOf, Sum, comesTo, refused, sumIn}
-use Rattle.held.specs.Answer.{summed}
+use Rattle.held.specs.Calculated.{Sum, comesTo, refused, sumIn}
+use Rattle.held.specs.Answer.{sumOf, summed}
 use Rattle.held.specs.declared.Calculated.{Calculated}
 use Rattle.held.specs.declared.Calculated.the-variants.{Is, Refused}
 use Rattle.only.proofs.Laws.{same, undone}

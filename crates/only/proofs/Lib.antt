@@ -9,6 +9,7 @@ pub mod Gsv
 pub mod Gsa
 pub mod Rmc
 pub mod Sentence
+pub mod Words
 pub mod Gather
 pub mod Log
 pub mod Capi

@@ -2,16 +2,19 @@
 use Prim.Native.Nat.{ℕ}
 use mathlib.Core.Path.{_≡_, refl, ap}
 use mathlib.Core.Bool.{Bool}
-use mathlib.Core.List.{List}
+use mathlib.Core.List.{List, []}
 use lib.ListN.{length, take}
 use Rattle.lines.specs.Places.{isPlace}
 use Rattle.gather.specs.Table.{freshTable}
-use Rattle.fed.specs.Line.{Said, blank, read}
+use Rattle.sentence.specs.Answer.{recordOf}
+use Rattle.sentence.specs.declared.Record.{Record}
+use Rattle.gather.specs.declared.line.Outcome.{Outcome}
+use Rattle.fed.specs.Line.{Said, blank, read, gsvOf}
 use Rattle.log.specs.Step.{Step, refused, end, line, stepOf}
 use Rattle.log.specs.Walk.{Walk, barred, went, walkOf}
-use Rattle.log.specs.Answer.{saidIn, stepIn, SaysStep, walkIn, SaysWalk}
-use Rattle.log.specs.declared.line.Said as Code
-use Rattle.log.specs.declared.line.Said.the-variants.{Blank, Read}
+use Rattle.log.specs.Answer.{lineIn, Follows, stepIn, SaysStep, walkIn, SaysWalk}
+use Rattle.log.specs.declared.line.Line as Code
+use Rattle.log.specs.declared.line.Line.the-variants.{Blank, Read}
 use Rattle.log.specs.declared.step.Stepped.{Stepped}
 use Rattle.log.specs.declared.step.Stepped.the-variants as stepped
 use Rattle.log.specs.declared.step.StepAnswer.{StepAnswer}
@@ -21,26 +24,26 @@ use Rattle.only.proofs.Laws.{same, brought, undone}
 use Rattle.only.proofs.Frame.{refusal-of, refusal-is}
 use Rattle.only.proofs.Sentence.{record-of, record-is}
 
-said-of : Said → Code.Said
-said-of blank = Blank
-said-of (read a) = Read (record-of a)
+line-of : Said → Code.Line
+line-of blank = Blank
+line-of (read a) = Read (record-of a)
 
-said-is : (xs : List ℕ) (r : Code.Said) → said-of (saidIn xs r) ≡ r
-unfolding said-of
-said-is xs Blank = refl
-said-is xs (Read r) = ap Read (record-is xs r)
+line-is : (xs : List ℕ) (r : Code.Line) → line-of (lineIn xs r) ≡ r
+unfolding line-of
+line-is xs Blank = refl
+line-is xs (Read r) = ap Read (record-is xs r)
 
 step-back : Step → Stepped
 step-back (refused r) = stepped.Refused (refusal-of r)
 step-back (end p) = stepped.End p
-step-back (line s p) = stepped.Line (said-of s) p
+step-back (line s p) = stepped.Line (line-of s) p
 
 -- whatever satellites stand beside it
 step-back-is : (xs : List ℕ) (r : Stepped) → step-back (stepIn xs r) ≡ r
 unfolding step-back
 step-back-is xs (stepped.Refused r) = ap stepped.Refused (refusal-is r)
 step-back-is xs (stepped.End p) = refl
-step-back-is xs (stepped.Line s p) = λ i. stepped.Line (said-is xs s i) p
+step-back-is xs (stepped.Line s p) = λ i. stepped.Line (line-is xs s i) p
 
 walk-back : Walk → Walked
 walk-back (barred r) = walked.Refused (refusal-of r)
@@ -53,6 +56,12 @@ walk-back-is (walked.Went c) = refl
 
 pub is-place : (log : List ℕ) (place : ℕ) {r q : Bool} → r ≡ isPlace log place → q ≡ isPlace log place → r ≡ q
 is-place log place = same
+
+pub follow : (answer : Record) (words : List ℕ) {l m : List ℕ} {r q : Outcome}
+    → Follows (gsvOf (read (recordOf [] answer))) words l r
+    → Follows (gsvOf (read (recordOf [] answer))) words m q
+    → (r ≡ q) × (l ≡ m)
+follow answer words x y = (same (x .says) (y .says), same (x .words) (y .words))
 
 pub step : (log : List ℕ) (place : ℕ) (words : List ℕ) {l m : List ℕ} {r q : StepAnswer}
     → SaysStep (stepOf log place words) l r

@@ -5,21 +5,9 @@ use mathlib.Core.List.{List}
 use mathlib.Core.Option.{Option, none, some}
 use Rattle.text.specs.Reader.{UnknownType, Number, BadTime}
 use Rattle.text.specs.Value.{Value, syntax, fault, is, value}
-use Rattle.decimal.specs.Places.{Short}
-use Rattle.fields.specs.Time.{Time}
-use Rattle.fields.specs.Date.{Date}
-use Rattle.fields.specs.Position.{LatLon}
 use Rattle.rmc.specs.Rmc.{Rmc, rmc}
 use Rattle.rmc.specs.Rmc as Spec
-use Rattle.rmc.specs.Answer.{timeHeld, dateHeld, positionHeld, shortHeld, letterHeld, fixOf, motionOf, endingOf, rmcData, rmcRead}
-use Rattle.rmc.specs.declared.TimeHeld.{TimeHeld}
-use Rattle.rmc.specs.declared.TimeHeld.the-variants.{Absent as NoTime, Is as ATime}
-use Rattle.rmc.specs.declared.DateHeld.{DateHeld}
-use Rattle.rmc.specs.declared.DateHeld.the-variants.{Absent as NoDate, Is as ADate}
-use Rattle.rmc.specs.declared.PositionHeld.{PositionHeld}
-use Rattle.rmc.specs.declared.PositionHeld.the-variants.{Absent as NoPosition, Is as APosition}
-use Rattle.rmc.specs.declared.ShortHeld.{ShortHeld}
-use Rattle.rmc.specs.declared.ShortHeld.the-variants.{Absent as NoShort, Is as AShort}
+use Rattle.rmc.specs.Answer.{letterHeld, fixOf, motionOf, endingOf, rmcData, rmcRead}
 use Rattle.rmc.specs.declared.LetterHeld.{LetterHeld}
 use Rattle.rmc.specs.declared.LetterHeld.the-variants.{Absent as NoLetter, Is as ALetter}
 use Rattle.rmc.specs.declared.Fix.{Fix}
@@ -29,44 +17,7 @@ use Rattle.rmc.specs.declared.RmcData.{RmcData}
 use Rattle.rmc.specs.declared.RmcRead.{RmcRead}
 use Rattle.rmc.specs.declared.RmcRead.the-variants.{Syntax, Is as ARmc, Number as RmcNumber, BadTime as RmcBad}
 use Rattle.only.proofs.Laws.{same, undone}
-use Rattle.only.proofs.Decimal.{short-of}
-use Rattle.only.proofs.Fields.{time-of, day-of, both-of}
-
-time-held : Option Time → TimeHeld
-time-held none = NoTime
-time-held (some t) = ATime (time-of t)
-
-time-held-is : (r : TimeHeld) → time-held (timeHeld r) ≡ r
-unfolding time-held
-time-held-is NoTime = refl
-time-held-is (ATime t) = refl
-
-date-held : Option Date → DateHeld
-date-held none = NoDate
-date-held (some d) = ADate (day-of d)
-
-date-held-is : (r : DateHeld) → date-held (dateHeld r) ≡ r
-unfolding date-held
-date-held-is NoDate = refl
-date-held-is (ADate d) = refl
-
-position-held : Option LatLon → PositionHeld
-position-held none = NoPosition
-position-held (some b) = APosition (both-of b)
-
-position-held-is : (r : PositionHeld) → position-held (positionHeld r) ≡ r
-unfolding position-held
-position-held-is NoPosition = refl
-position-held-is (APosition b) = refl
-
-short-held : Option Short → ShortHeld
-short-held none = NoShort
-short-held (some d) = AShort (short-of d)
-
-short-held-is : (r : ShortHeld) → short-held (shortHeld r) ≡ r
-unfolding short-held
-short-held-is NoShort = refl
-short-held-is (AShort d) = refl
+use Rattle.only.proofs.Fields.{time-held, time-held-is, date-held, date-held-is, position-held, position-held-is, short-held, short-held-is}
 
 letter-held : Option ℕ → LetterHeld
 letter-held none = NoLetter

@@ -7,7 +7,7 @@ use Rattle.text.specs.Reader.{char, oneOf, letterOf, opt}
 use Rattle.text.specs.Reader as Reader
 use Rattle.text.specs.Placed.{Placed, unread, refused, upto, Reads}
 use Rattle.text.specs.Number as Number
-use Rattle.text.specs.Units as Units
+use Rattle.text.specs.Code as Units
 use Rattle.text.specs.Answer.{held, wholeAt, next, lettered, part, field}
 use Rattle.text.specs.declared.Whole.{Whole}
 use Rattle.text.specs.declared.Whole.the-variants.{No, Is}

@@ -12,7 +12,8 @@ use Rattle.decimal.specs.Decimal.{short, long}
 use Rattle.decimal.proofs.Number.{Place, place, here, NumberAt, behind, never, both, first, short-number}
 use Rattle.fields.specs.Position.{latitude}
 use Rattle.fields.proofs.Number.{timePlaces, positionPlaces, variationPlaces, time-number, never-date, position-number, variation-number}
-use Rattle.rmc.specs.Rmc.{fixLetters, modeLetters, statusLetters, withComma, timePlace, statusPlace, shortPlace, ifComma, optLetter, fixPart, motion, letters, ending, rmc}
+use Rattle.fields.specs.Place.{withComma, timePlace, shortPlace}
+use Rattle.rmc.specs.Rmc.{fixLetters, modeLetters, statusLetters, statusPlace, ifComma, optLetter, fixPart, motion, letters, ending, rmc}
 
 -- what is read before each place
 abbrev pub beforeSeconds : Reader (Unit {0})

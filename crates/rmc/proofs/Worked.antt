@@ -15,7 +15,8 @@ use Rattle.fields.specs.Time.{hms, clock, timed}
 use Rattle.fields.specs.Date.{date}
 use Rattle.fields.specs.Position.{side, latitude, longitude, doLatLon, commas, latLon}
 use Rattle.fields.specs.Variation.{doVariation, variation}
-use Rattle.rmc.specs.Rmc.{Motion, withComma, ifComma, optLetter, fixPart, motion, letters, ending, rmc}
+use Rattle.fields.specs.Place.{withComma}
+use Rattle.rmc.specs.Rmc.{Motion, ifComma, optLetter, fixPart, motion, letters, ending, rmc}
 
 abbrev nothing : Motion
 nothing = record { speed = none; course = none; date = none }

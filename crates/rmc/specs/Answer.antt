@@ -4,31 +4,10 @@ use mathlib.Core.Option.{Option, none, some}
 use Rattle.text.specs.Reader.{Number, BadTime}
 use Rattle.text.specs.Placed.{Placed, unread, refused, upto}
 use Rattle.text.specs.Value.{Value, syntax, fault, is}
-use Rattle.decimal.specs.Places.{Short}
-use Rattle.decimal.specs.Answer.{aShort}
-use Rattle.fields.specs.Time.{Time}
-use Rattle.fields.specs.Date.{Date}
-use Rattle.fields.specs.Position.{LatLon}
-use Rattle.fields.specs.Answer.{timeOfDay, dayOf, both}
+use Rattle.fields.specs.Answer.{timeHeld, dateHeld, positionHeld, shortHeld}
 use Rattle.rmc.specs.Rmc.{Fix as FixOf, Motion as MotionOf, Letters as LettersOf, Ending as EndingOf, Rmc}
-use Rattle.rmc.specs.declared.TimeHeld.{TimeHeld}
-use Rattle.rmc.specs.declared.TimeHeld.the-variants.{Absent as NoTime, Is as ATime}
-use Rattle.rmc.specs.declared.DateHeld.{DateHeld}
-use Rattle.rmc.specs.declared.DateHeld.the-variants.{Absent as NoDate, Is as ADate}
-use Rattle.rmc.specs.declared.PositionHeld.{PositionHeld}
-use Rattle.rmc.specs.declared.PositionHeld.the-variants.{Absent as NoPosition, Is as APosition}
-use Rattle.rmc.specs.declared.ShortHeld.{ShortHeld}
-use Rattle.rmc.specs.declared.ShortHeld.the-variants.{Absent as NoShort, Is as AShort}
 use Rattle.rmc.specs.declared.LetterHeld.{LetterHeld}
 use Rattle.rmc.specs.declared.LetterHeld.the-variants.{Absent as NoLetter, Is as ALetter}
-use Rattle.rmc.specs.declared.TimePlace.{TimePlace}
-use Rattle.rmc.specs.declared.TimePlace.the-variants.{No as NoTimeHere, Is as TimeHere, Number as TimeNumber, BadTime as TimeBad}
-use Rattle.rmc.specs.declared.PositionPlace.{PositionPlace}
-use Rattle.rmc.specs.declared.PositionPlace.the-variants.{No as NoPositionHere, Is as PositionHere, Number as PositionNumber}
-use Rattle.rmc.specs.declared.ShortPlace.{ShortPlace}
-use Rattle.rmc.specs.declared.ShortPlace.the-variants.{No as NoShortHere, Is as ShortHere, Number as ShortNumber}
-use Rattle.rmc.specs.declared.DatePlace.{DatePlace}
-use Rattle.rmc.specs.declared.DatePlace.the-variants.{No as NoDateHere, Is as DateHere}
 use Rattle.rmc.specs.declared.FixAt.{FixAt}
 use Rattle.rmc.specs.declared.FixAt.the-variants.{No as NoFixHere, Is as FixHere, Number as FixNumber, BadTime as FixBad}
 use Rattle.rmc.specs.declared.MotionAt.{MotionAt}
@@ -45,45 +24,9 @@ use Rattle.rmc.specs.declared.RmcData.{RmcData}
 use Rattle.rmc.specs.declared.RmcRead.{RmcRead}
 use Rattle.rmc.specs.declared.RmcRead.the-variants.{Syntax, Is as Reads, Number as RmcNumber, BadTime as RmcBad}
 
-abbrev pub timeHeld : TimeHeld → Option Time
-timeHeld NoTime = none
-timeHeld (ATime t) = some (timeOfDay t)
-
-abbrev pub dateHeld : DateHeld → Option Date
-dateHeld NoDate = none
-dateHeld (ADate d) = some (dayOf d)
-
-abbrev pub positionHeld : PositionHeld → Option LatLon
-positionHeld NoPosition = none
-positionHeld (APosition b) = some (both b)
-
-abbrev pub shortHeld : ShortHeld → Option Short
-shortHeld NoShort = none
-shortHeld (AShort d) = some (aShort d)
-
 abbrev pub letterHeld : LetterHeld → Option ℕ
 letterHeld NoLetter = none
 letterHeld (ALetter b) = some b
-
-abbrev pub timePlaceAt : TimePlace → Placed (Option Time)
-timePlaceAt NoTimeHere = unread
-timePlaceAt (TimeHere t p) = upto (timeHeld t) p
-timePlaceAt TimeNumber = refused Number
-timePlaceAt TimeBad = refused BadTime
-
-abbrev pub positionPlaceAt : PositionPlace → Placed (Option LatLon)
-positionPlaceAt NoPositionHere = unread
-positionPlaceAt (PositionHere b p) = upto (positionHeld b) p
-positionPlaceAt PositionNumber = refused Number
-
-abbrev pub shortPlaceAt : ShortPlace → Placed (Option Short)
-shortPlaceAt NoShortHere = unread
-shortPlaceAt (ShortHere d p) = upto (shortHeld d) p
-shortPlaceAt ShortNumber = refused Number
-
-abbrev pub datePlaceAt : DatePlace → Placed (Option Date)
-datePlaceAt NoDateHere = unread
-datePlaceAt (DateHere d p) = upto (dateHeld d) p
 
 abbrev pub letterAt : LetterField → Placed (Option ℕ)
 letterAt r = upto (letterHeld (r .letter)) (r .at)

@@ -16,10 +16,11 @@ use mathlib.Core.List.{List}
 use mathlib.Core.Option.{Option, none, some}
 use Rattle.text.specs.Bytes.{byte, bytes}
 use Rattle.text.specs.Reader.{Reader, pure, opt, char, letterOf, _>>=_, _>>_}
-use Rattle.decimal.specs.Places.{Short, shortDecimal}
-use Rattle.fields.specs.Time.{Time, optHms}
-use Rattle.fields.specs.Date.{Date, optDate}
-use Rattle.fields.specs.Position.{LatLon, latLon}
+use Rattle.decimal.specs.Places.{Short}
+use Rattle.fields.specs.Time.{Time}
+use Rattle.fields.specs.Date.{Date}
+use Rattle.fields.specs.Position.{LatLon}
+use Rattle.fields.specs.Place.{withComma, timePlace, datePlace, positionPlace, shortPlace}
 use Rattle.fields.specs.Variation.{variation}
 
 -- "Status A, D or V"
@@ -34,27 +35,8 @@ modeLetters = bytes "ACDEFMNPRSU"
 abbrev pub statusLetters : List ℕ
 statusLetters = bytes "ADEMNSV"
 
--- each field up to the date has a comma after it
-unfoldable pub withComma : {A : Type 0} → Reader A → Reader A
-withComma r = do
-  a ← r
-  char (byte ",")
-  pure a
-
-abbrev pub timePlace : Reader (Option Time)
-timePlace = withComma optHms
-
 abbrev pub statusPlace : Reader ℕ
 statusPlace = withComma (letterOf fixLetters)
-
-abbrev pub positionPlace : Reader (Option LatLon)
-positionPlace = withComma latLon
-
-abbrev pub shortPlace : Reader (Option Short)
-shortPlace = withComma shortDecimal
-
-abbrev pub datePlace : Reader (Option Date)
-datePlace = withComma optDate
 
 -- where a comma stood, a letter that may be absent; an unknown letter is not eaten
 unfoldable pub ifComma : List ℕ → Option (Unit {0}) → Reader (Option ℕ)
@@ -67,7 +49,7 @@ optLetter letters = do
   comma ← opt (char (byte ","))
   ifComma letters comma
 
--- each field but the first status may be absent
+-- each field up to the date has a comma after it; each but the first status may be absent
 pub record Fix : Type 0 where
   pub time : Option Time
   pub status : ℕ

@@ -4,73 +4,23 @@ ghost use mathlib.Core.Path.{_≡_};
 ghost use Rattle.text.specs.Placed.{Reads};
 ghost use Rattle.text.specs.Value.{value};
 ghost use Rattle.text.specs.Answer.{lettered};
-ghost use Rattle.rmc.specs.Rmc.{timePlace, statusPlace, positionPlace, shortPlace, datePlace, optLetter, fixPart, motion, letters, ending, rmc};
-ghost use Rattle.rmc.specs.Answer.{timePlaceAt, positionPlaceAt, shortPlaceAt, datePlaceAt, letterAt, fixAt, motionAt, lettersAt, endingAt, rmcRead};
-use decimal::ShortAt;
-use decimal::ShortDecimal;
-use fields::Both;
+ghost use Rattle.rmc.specs.Rmc.{statusPlace, optLetter, fixPart, motion, letters, ending, rmc};
+ghost use Rattle.rmc.specs.Answer.{letterAt, fixAt, motionAt, lettersAt, endingAt, rmcRead};
 use fields::DateAt;
-use fields::Day;
-use fields::PlaceAt;
+use fields::DateHeld;
+use fields::PositionAt;
+use fields::PositionHeld;
+use fields::ShortHeld;
+use fields::ShortPlace;
 use fields::TimeAt;
-use fields::TimeOfDay;
-use fields::VariationAt;
+use fields::TimeHeld;
 use text::Letter;
 use text::Next;
 
-// What may be absent.
-pub enum TimeHeld {
-    Absent,
-    Is(TimeOfDay),
-}
-
-pub enum DateHeld {
-    Absent,
-    Is(Day),
-}
-
-pub enum PositionHeld {
-    Absent,
-    Is(Both),
-}
-
-pub enum ShortHeld {
-    Absent,
-    Is(ShortDecimal),
-}
-
+// A letter that may be absent.
 pub enum LetterHeld {
     Absent,
     Is(u8),
-}
-
-// A time that may be absent, with its comma.
-pub enum TimePlace {
-    No,
-    Is(TimeHeld, usize),
-    Number,
-    BadTime,
-}
-
-fn time_place(s: &[u8], at: usize) -> TimePlace
-    ensures { λ r. ⌜ Reads (now (s .entry)) at timePlace (timePlaceAt r) × (now (s .exit) ≡ now (s .entry)) ⌝ }
-{
-    match fields::opt_hms(s, at) {
-        TimeAt::Absent(at) => {
-            let Next::At(at) = text::byte(s, at, b',') else {
-                return TimePlace::No;
-            };
-            TimePlace::Is(TimeHeld::Absent, at)
-        }
-        TimeAt::Is(t, at) => {
-            let Next::At(at) = text::byte(s, at, b',') else {
-                return TimePlace::No;
-            };
-            TimePlace::Is(TimeHeld::Is(t), at)
-        }
-        TimeAt::Number => TimePlace::Number,
-        TimeAt::BadTime => TimePlace::BadTime,
-    }
 }
 
 // The status of the fix, with its comma.
@@ -84,86 +34,6 @@ fn status_place(s: &[u8], at: usize) -> Letter
         return Letter::No;
     };
     Letter::Is(b, at)
-}
-
-// A position that may be absent, with its comma.
-pub enum PositionPlace {
-    No,
-    Is(PositionHeld, usize),
-    Number,
-}
-
-fn position_place(s: &[u8], at: usize) -> PositionPlace
-    ensures { λ r. ⌜ Reads (now (s .entry)) at positionPlace (positionPlaceAt r) × (now (s .exit) ≡ now (s .entry)) ⌝ }
-{
-    match fields::parse_lat_lon(s, at) {
-        PlaceAt::No => PositionPlace::No,
-        PlaceAt::Absent(at) => {
-            let Next::At(at) = text::byte(s, at, b',') else {
-                return PositionPlace::No;
-            };
-            PositionPlace::Is(PositionHeld::Absent, at)
-        }
-        PlaceAt::Is(b, at) => {
-            let Next::At(at) = text::byte(s, at, b',') else {
-                return PositionPlace::No;
-            };
-            PositionPlace::Is(PositionHeld::Is(b), at)
-        }
-        PlaceAt::Number => PositionPlace::Number,
-    }
-}
-
-// A short decimal that may be absent, with its comma.
-pub enum ShortPlace {
-    No,
-    Is(ShortHeld, usize),
-    Number,
-}
-
-fn short_place(s: &[u8], at: usize) -> ShortPlace
-    ensures { λ r. ⌜ Reads (now (s .entry)) at shortPlace (shortPlaceAt r) × (now (s .exit) ≡ now (s .entry)) ⌝ }
-{
-    match decimal::short_decimal(s, at) {
-        ShortAt::Absent(at) => {
-            let Next::At(at) = text::byte(s, at, b',') else {
-                return ShortPlace::No;
-            };
-            ShortPlace::Is(ShortHeld::Absent, at)
-        }
-        ShortAt::Is(d, at) => {
-            let Next::At(at) = text::byte(s, at, b',') else {
-                return ShortPlace::No;
-            };
-            ShortPlace::Is(ShortHeld::Is(d), at)
-        }
-        ShortAt::Number => ShortPlace::Number,
-    }
-}
-
-// A date that may be absent, with its comma.
-pub enum DatePlace {
-    No,
-    Is(DateHeld, usize),
-}
-
-fn date_place(s: &[u8], at: usize) -> DatePlace
-    ensures { λ r. ⌜ Reads (now (s .entry)) at datePlace (datePlaceAt r) × (now (s .exit) ≡ now (s .entry)) ⌝ }
-{
-    match fields::opt_date(s, at) {
-        DateAt::Absent(at) => {
-            let Next::At(at) = text::byte(s, at, b',') else {
-                return DatePlace::No;
-            };
-            DatePlace::Is(DateHeld::Absent, at)
-        }
-        DateAt::Is(d, at) => {
-            let Next::At(at) = text::byte(s, at, b',') else {
-                return DatePlace::No;
-            };
-            DatePlace::Is(DateHeld::Is(d), at)
-        }
-    }
 }
 
 // A letter that may be absent, and the next place.
@@ -211,15 +81,15 @@ pub enum FixAt {
 fn fix_part(s: &[u8], at: usize) -> FixAt
     ensures { λ r. ⌜ Reads (now (s .entry)) at fixPart (fixAt r) × (now (s .exit) ≡ now (s .entry)) ⌝ }
 {
-    match time_place(s, at) {
-        TimePlace::No => FixAt::No,
-        TimePlace::Is(time, at) => {
+    match fields::time_place(s, at) {
+        TimeAt::No => FixAt::No,
+        TimeAt::Is(time, at) => {
             let Letter::Is(status, at) = status_place(s, at) else {
                 return FixAt::No;
             };
-            match position_place(s, at) {
-                PositionPlace::No => FixAt::No,
-                PositionPlace::Is(position, at) => FixAt::Is(
+            match fields::position_place(s, at) {
+                PositionAt::No => FixAt::No,
+                PositionAt::Is(position, at) => FixAt::Is(
                     Fix {
                         time: time,
                         status: status,
@@ -227,11 +97,11 @@ fn fix_part(s: &[u8], at: usize) -> FixAt
                     },
                     at,
                 ),
-                PositionPlace::Number => FixAt::Number,
+                PositionAt::Number => FixAt::Number,
             }
         }
-        TimePlace::Number => FixAt::Number,
-        TimePlace::BadTime => FixAt::BadTime,
+        TimeAt::Number => FixAt::Number,
+        TimeAt::BadTime => FixAt::BadTime,
     }
 }
 
@@ -251,12 +121,12 @@ pub enum MotionAt {
 fn motion_part(s: &[u8], at: usize) -> MotionAt
     ensures { λ r. ⌜ Reads (now (s .entry)) at motion (motionAt r) × (now (s .exit) ≡ now (s .entry)) ⌝ }
 {
-    match short_place(s, at) {
+    match fields::short_place(s, at) {
         ShortPlace::No => MotionAt::No,
-        ShortPlace::Is(speed, at) => match short_place(s, at) {
+        ShortPlace::Is(speed, at) => match fields::short_place(s, at) {
             ShortPlace::No => MotionAt::No,
             ShortPlace::Is(course, at) => {
-                let DatePlace::Is(date, at) = date_place(s, at) else {
+                let DateAt::Is(date, at) = fields::date_place(s, at) else {
                     return MotionAt::No;
                 };
                 MotionAt::Is(
@@ -318,30 +188,19 @@ fn ending_part(s: &[u8], at: usize) -> EndingAt
     ensures { λ r. ⌜ Reads (now (s .entry)) at ending (endingAt r) × (now (s .exit) ≡ now (s .entry)) ⌝ }
 {
     match fields::parse_magnetic_variation(s, at) {
-        VariationAt::No => EndingAt::No,
-        VariationAt::Absent(at) => {
+        ShortPlace::No => EndingAt::No,
+        ShortPlace::Is(variation, at) => {
             let l = letters_part(s, at);
             let letters = l.letters;
             EndingAt::Is(
                 Ending {
-                    variation: ShortHeld::Absent,
+                    variation: variation,
                     letters: letters,
                 },
                 l.at,
             )
         }
-        VariationAt::Is(v, at) => {
-            let l = letters_part(s, at);
-            let letters = l.letters;
-            EndingAt::Is(
-                Ending {
-                    variation: ShortHeld::Is(v),
-                    letters: letters,
-                },
-                l.at,
-            )
-        }
-        VariationAt::Number => EndingAt::Number,
+        ShortPlace::Number => EndingAt::Number,
     }
 }
 

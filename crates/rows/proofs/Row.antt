@@ -12,9 +12,9 @@ use borrow.Author.Tests.{le-leb, leb-true}
 use Rattle.text.specs.Bytes.{byte}
 use Rattle.groups.specs.Log.{Gsv}
 use Rattle.groups.specs.Step.{Open, step}
-use Rattle.gsv.specs.Talker.{System, beidou, galileo, gps, glonass, navic, qzss, rowFor, systemOf}
-use Rattle.gsv.specs.Gsv.{Satellite}
-use Rattle.sentence.specs.Sentence.{GsvSentence, answer, isGsv}
+use Rattle.gsv.specs.Talker.{Talker as GsvTalker, ga, gp, gl, gb, gi, gq, rowFor, talkerOf}
+use Rattle.gsv.specs.Gsv.{Satellite, GsvSentence}
+use Rattle.answer.specs.Sentence.{answer, isGsv}
 use Rattle.short.specs.Texts.{Upto, Readable, AllReadable, bodyOf}
 use Rattle.short.specs.Room.{Room}
 use Rattle.short.proofs.Texts.{all-present}
@@ -24,7 +24,7 @@ use Rattle.pack.specs.Rows.{Packs}
 use Rattle.pack.proofs.Few.{four-each}
 use Rattle.pack.proofs.Greedy.{greedy}
 use Rattle.pack.proofs.Rows.{Sound, sound-step, left-by}
-use Rattle.rows.specs.Key.{keyOf, rowCount}
+use Rattle.rows.specs.Key.{sourceFrom, rowFrom, rowCount}
 use Rattle.rows.specs.Line.{lineOf}
 use Rattle.rows.specs.Leave.{Line, Leavable, upto, readable, allReadable, entrySize, space, leavable, Stands}
 use Rattle.rows.proofs.Fit.{alone, room-cut}
@@ -134,23 +134,23 @@ has-room κ g l = subst (λ (x : Gsv Satellite). Room (x .view) (x .sats)) (l .s
 record Talker (κ : ℕ) : Type 0 where
   pub first : ℕ
   pub second : ℕ
-  pub system : System
-  pub names : systemOf first second ≡ some system
+  pub talker : GsvTalker
+  pub names : talkerOf first second ≡ some talker
   pub first-letter : Letter first
   pub second-letter : Letter second
-  pub mine : keyOf system ≡ κ
+  pub mine : rowFrom (sourceFrom talker) ≡ κ
 
-with-g : (b : ℕ) (s : System) → systemOf (byte "G") b ≡ some s → Letter b → Talker (keyOf s)
-with-g b s e h = record { first = byte "G"; second = b; system = s; names = e; first-letter = (omega arith, omega arith); second-letter = h; mine = refl }
+with-g : (b : ℕ) (t : GsvTalker) → talkerOf (byte "G") b ≡ some t → Letter b → Talker (rowFrom (sourceFrom t))
+with-g b t e h = record { first = byte "G"; second = b; talker = t; names = e; first-letter = (omega arith, omega arith); second-letter = h; mine = refl }
 
 talker : (κ : ℕ) → κ < rowCount → Talker κ
 unfolding rowFor
-talker zero h = with-g (byte "P") gps refl (omega arith, omega arith)
-talker (suc zero) h = with-g (byte "L") glonass refl (omega arith, omega arith)
-talker (suc (suc zero)) h = with-g (byte "A") galileo refl (omega arith, omega arith)
-talker (suc (suc (suc zero))) h = with-g (byte "B") beidou refl (omega arith, omega arith)
-talker (suc (suc (suc (suc zero)))) h = with-g (byte "I") navic refl (omega arith, omega arith)
-talker (suc (suc (suc (suc (suc zero))))) h = with-g (byte "Q") qzss refl (omega arith, omega arith)
+talker zero h = with-g (byte "P") gp refl (omega arith, omega arith)
+talker (suc zero) h = with-g (byte "L") gl refl (omega arith, omega arith)
+talker (suc (suc zero)) h = with-g (byte "A") ga refl (omega arith, omega arith)
+talker (suc (suc (suc zero))) h = with-g (byte "B") gb refl (omega arith, omega arith)
+talker (suc (suc (suc (suc zero)))) h = with-g (byte "Q") gq refl (omega arith, omega arith)
+talker (suc (suc (suc (suc (suc zero))))) h = with-g (byte "I") gi refl (omega arith, omega arith)
 talker (suc (suc (suc (suc (suc (suc κ)))))) h = absurd (omega arith)
 
 -- and a line wherever there is room
@@ -158,8 +158,8 @@ has-line : (κ : ℕ) → Talker κ → (n k v : ℕ) (es : List Satellite) → 
     → Line κ (record { key = κ; n = n; number = k; view = v; sats = es })
 has-line κ t n k v es hn hk r =
     record {
-      sentence = record { talker = t .first ∷ t .second ∷ []; system = t .system; body = bodyOf n k v es };
-      written = line-of (t .first) (t .second) (t .system) n k v es (t .names) (t .first-letter) (t .second-letter) hn hk r;
+      sentence = record { talker = t .talker; body = bodyOf n k v es };
+      written = line-of (t .first) (t .second) (t .talker) n k v es (t .names) (t .first-letter) (t .second-letter) hn hk r;
       says = λ i. record { key = t .mine i; n = n; number = k; view = v; sats = all-present n k v es (r .four) i };
       mine = refl;
     }

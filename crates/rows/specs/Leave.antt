@@ -10,8 +10,7 @@ use Rattle.frame.specs.Frame.{maxLength}
 use Rattle.groups.specs.Log.{Gsv}
 use Rattle.groups.specs.Step.{Open}
 use Rattle.groups.specs.Left.{LeftBy}
-use Rattle.gsv.specs.Gsv.{countMax, idMax, placeMax, Satellite}
-use Rattle.sentence.specs.Sentence.{GsvSentence}
+use Rattle.gsv.specs.Gsv.{countMax, idMax, placeMax, Satellite, GsvSentence}
 use Rattle.short.specs.Digits.{digitsOf}
 use Rattle.short.specs.Texts.{entryText}
 use Rattle.short.specs.Room.{beside, Written}

@@ -1,9 +1,2 @@
 pub mod Told
 pub mod Satellites
-pub mod Beside
-pub mod Types
-pub mod Worked
-pub mod OneByte
-pub mod Numbered
-pub mod Number
-pub mod Nines

@@ -6,49 +6,42 @@ use mathlib.Core.Option.{Option, none, some}
 use lib.ListN.{length, take}
 use Rattle.frame.specs.Refused.{Refused}
 use Rattle.frame.specs.Answer.{talkerBytes, letters, refused}
-use Rattle.gsv.specs.Answer.{gnss, gsvData}
+use Rattle.gsv.specs.Answer.{gsvSentence}
 use Rattle.gsa.specs.Answer.{gsaOf as gsaData, row}
 use Rattle.rmc.specs.Answer.{rmcData}
-use Rattle.sentence.specs.Sentence.{Answer, isRmc, isGsa, isGsv, isOther, isRefused, GsaSentence, GsvSentence}
-use Rattle.sentence.specs.declared.RmcLine.{RmcLine}
-use Rattle.sentence.specs.declared.RmcLine.the-variants.{Is as RmcIs, Refused as RmcRefused}
-use Rattle.sentence.specs.declared.GsvRecord.{GsvRecord}
-use Rattle.sentence.specs.declared.GsvLine.{GsvLine}
-use Rattle.sentence.specs.declared.GsvLine.the-variants.{Is as GsvIs, Refused as GsvRefused}
+use Rattle.answer.specs.Sentence.{Answer, isRmc, isGsa, isGsv, isOther, isRefused, RmcSentence, GsaSentence, OtherSentence, Formatter, rmcType, gsaType, gsvType, otherType}
+use Rattle.sentence.specs.declared.RmcRecord.{RmcRecord}
 use Rattle.sentence.specs.declared.GsaRecord.{GsaRecord}
-use Rattle.sentence.specs.declared.GsaFound.{GsaFound}
-use Rattle.sentence.specs.declared.GsaFound.the-variants.{Is as GsaIs, Refused as GsaRefused}
-use Rattle.sentence.specs.declared.GsaLine.{GsaLine}
+use Rattle.sentence.specs.declared.OtherRecord.{OtherRecord}
 use Rattle.sentence.specs.declared.Record.{Record}
 use Rattle.sentence.specs.declared.Record.the-variants.{Rmc as ARmc, Gsa as AGsa, Gsv as AGsv, Other as AnOther, Refused as ARefusal}
 use Rattle.sentence.specs.declared.ParseResult.{ParseResult}
+use Rattle.sentence.specs.declared.Formatter as Code
+use Rattle.sentence.specs.declared.Formatter.the-variants.{Rmc, Gsa, Gsv, Other}
 use Rattle.sentence.specs.declared.Verdict.{Verdict}
 use Rattle.sentence.specs.declared.Verdict.the-variants.{Accepted, Refused as AVerdict}
 
-abbrev pub rmcLine : RmcLine → Answer
-rmcLine (RmcIs d) = isRmc (rmcData d)
-rmcLine (RmcRefused r) = isRefused (refused r)
+abbrev pub formatter : Code.Formatter → Formatter
+formatter Rmc = rmcType
+formatter Gsa = gsaType
+formatter Gsv = gsvType
+formatter Other = otherType
 
-abbrev pub gsvSentence : GsvRecord → GsvSentence
-gsvSentence g = record { talker = talkerBytes (g .talker); system = gnss (g .system); body = gsvData (g .data) }
-
-abbrev pub gsvLine : GsvLine → Answer
-gsvLine (GsvIs g) = isGsv (gsvSentence g)
-gsvLine (GsvRefused r) = isRefused (refused r)
+abbrev pub rmcSentence : RmcRecord → RmcSentence
+rmcSentence r = record { talker = talkerBytes (r .talker); body = rmcData (r .data) }
 
 -- a GSA record with its satellites
 abbrev pub gsaSentence : List ℕ → GsaRecord → GsaSentence
 gsaSentence xs g = record { talker = talkerBytes (g .talker); body = gsaData xs (g .head) }
 
-abbrev pub gsaFound : List ℕ → GsaFound → Answer
-gsaFound xs (GsaIs g) = isGsa (gsaSentence xs g)
-gsaFound xs (GsaRefused r) = isRefused (refused r)
+abbrev pub otherSentence : OtherRecord → OtherSentence
+otherSentence o = record { talker = talkerBytes (o .talker); kind = letters (o .kind) }
 
 abbrev pub recordOf : List ℕ → Record → Answer
-recordOf xs (ARmc d) = isRmc (rmcData d)
+recordOf xs (ARmc r) = isRmc (rmcSentence r)
 recordOf xs (AGsa g) = isGsa (gsaSentence xs g)
 recordOf xs (AGsv g) = isGsv (gsvSentence g)
-recordOf xs (AnOther k) = isOther (letters k)
+recordOf xs (AnOther o) = isOther (otherSentence o)
 recordOf xs (ARefusal r) = isRefused (refused r)
 
 -- the satellites beside an answer: only a GSA record has any
@@ -65,21 +58,9 @@ pub record Beside (a : Answer) (cells : List ℕ) (count : ℕ) : Type 0 where
   pub count-is : count ≡ length (satellitesOf a)
 
 -- the code's answer: what it says, with what stands beside it
-pub record SaysGsa (a : Answer) (r : GsaLine) : Type 0 where
-  pub says : gsaFound (take (r .count) (r .satellites)) (r .found) ≡ a
-  pub beside : Beside a (r .satellites) (r .count)
-
 pub record Says (a : Answer) (r : ParseResult) : Type 0 where
   pub says : recordOf (take (r .count) (r .satellites)) (r .answer) ≡ a
   pub beside : Beside a (r .satellites) (r .count)
-
--- for the code: a record with no satellites beside it, and a GSA answer as a record
-abbrev pub alone : Record → ParseResult
-alone r = record { answer = r; satellites = row []; count = 0 }
-
-abbrev pub asRecord : GsaFound → Record
-asRecord (GsaIs g) = AGsa g
-asRecord (GsaRefused r) = ARefusal r
 
 abbrev pub verdict : Verdict → Option Refused
 verdict Accepted = none

@@ -1,2 +1,2 @@
-pub mod Sentence
 pub mod Answer
+pub mod Code

@@ -20,10 +20,10 @@ use Rattle.frame.proofs.Shape.{line-of as line-with, parts-of, shaped, line-bac
 use Rattle.frame.proofs.Until.{Clear}
 use Rattle.frame.proofs.OneByte.{was-accepted}
 use Rattle.frame.proofs.Judged.{frame-ascii}
-use Rattle.gsv.specs.Talker.{System, systemOf}
-use Rattle.gsv.specs.Gsv.{Satellite, Gsv, gsv, present}
+use Rattle.gsv.specs.Talker.{Talker, talkerOf}
+use Rattle.gsv.specs.Gsv.{Satellite, Gsv, gsv, present, GsvSentence}
 use Rattle.gsv.proofs.Present.{at-most-four}
-use Rattle.sentence.specs.Sentence.{GsvSentence, isGsv, orRefused, gsvBy, framedBy, dispatch, answer}
+use Rattle.answer.specs.Sentence.{isGsv, orRefused, asGsv, gsvBy, framedBy, formatterOf, dispatch, answer}
 use Rattle.short.specs.Texts.{dataText, bodyOf}
 use Rattle.short.specs.Room.{Room, Written}
 use Rattle.short.proofs.Digits.{some-digit, digit-one}
@@ -115,18 +115,16 @@ module _ (a b : ℕ) (text : List ℕ) (first : Letter a) (second : Letter b) (l
       (ap judged (line-back a b (byte "G") (byte "S") (byte "V") known (digits .high) (digits .low) [] clear (digits .is))
       ∙ rw (eq-eqb summed summed refl))
 
-  read : {s : System} {g : Gsv} {m : List ℕ} → frame line ≡ accepted parts → systemOf a b ≡ some s → gsv text ≡ got g m
-      → answer line ≡ isGsv (record { talker = a ∷ b ∷ []; system = s; body = g })
-  unfolding answer dispatch alike
-  read {s} f e r =
-      ap (framedBy dispatch) f
-      ∙ ap (λ (o : Option System). gsvBy o parts) e
-      ∙ ap (λ (x : Parse Gsv). orRefused (λ g. isGsv (record { talker = a ∷ b ∷ []; system = s; body = g })) (value x)) r
+  read : {t : Talker} {g : Gsv} {m : List ℕ} → frame line ≡ accepted parts → talkerOf a b ≡ some t → gsv text ≡ got g m
+      → answer line ≡ isGsv (record { talker = t; body = g })
+  unfolding answer dispatch formatterOf alike
+  read {t} f e r =
+      ap (framedBy dispatch) f ∙ ap (λ (o : Option Talker). gsvBy o parts) e ∙ ap (λ (x : Parse Gsv). orRefused (asGsv t) (value x)) r
 
 -- where there is room some line is accepted
-pub line-of : (a b : ℕ) (s : System) (n k v : ℕ) (es : List Satellite) → systemOf a b ≡ some s → Letter a → Letter b → n ≤ 9 → k ≤ 9 → Room v es
-    → Written (record { talker = a ∷ b ∷ []; system = s; body = bodyOf n k v es })
-line-of a b s n k v es e ha hb hn hk r =
+pub line-of : (a b : ℕ) (t : Talker) (n k v : ℕ) (es : List Satellite) → talkerOf a b ≡ some t → Letter a → Letter b → n ≤ 9 → k ≤ 9 → Room v es
+    → Written (record { talker = t; body = bodyOf n k v es })
+line-of a b t n k v es e ha hb hn hk r =
     let text = dataText n k v es in
     let low = data-ascii n k v es in
     let one = ap length (digit-one n (omega arith)) in

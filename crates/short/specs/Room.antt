@@ -5,8 +5,8 @@ use mathlib.Core.List.{List}
 use lib.ListN.{length}
 use Rattle.lines.specs.Lines.{Lined}
 use Rattle.frame.specs.Frame.{maxLength}
-use Rattle.gsv.specs.Gsv.{countMax, Satellite}
-use Rattle.sentence.specs.Sentence.{GsvSentence, answer, isGsv}
+use Rattle.gsv.specs.Gsv.{countMax, Satellite, GsvSentence}
+use Rattle.answer.specs.Sentence.{answer, isGsv}
 use Rattle.short.specs.Digits.{digitsOf}
 use Rattle.short.specs.Texts.{AllReadable, entriesText}
 

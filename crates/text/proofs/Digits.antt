@@ -9,7 +9,7 @@ use borrow.Author.Tests.{le-leb, lt-leb, lt-ltb}
 use Rattle.text.specs.Reader.{miss, got}
 use Rattle.text.proofs.Places.{here, ended}
 use Rattle.text.specs.Number.{isDigit, leadingDigits, valueFrom, numberFrom, number}
-use Rattle.text.specs.Units.{unit}
+use Rattle.text.specs.Code.{unit}
 use Rattle.text.proofs.Fixed.{unit-digit, unit-none, unit-is}
 
 pub digit-yes : (b : ℕ) → 48 ≤ b → b ≤ 57 → isDigit b ≡ true

@@ -11,7 +11,7 @@ use borrow.Author.Tests.{le-leb, lt-leb, leb-true, ltb-true, ltb-false, lt-ltb, 
 use Rattle.text.specs.Reader.{Parse, miss, got}
 use Rattle.text.specs.Number.{isDigit, leadingDigits, afterDigits, valueFrom, fixed, twoBytes, threeBytes, unsigned, upTo, written}
 use Rattle.text.proofs.Places.{here}
-use Rattle.text.specs.Units.{unit, leadUnit}
+use Rattle.text.specs.Code.{unit, leadUnit}
 
 pub digit-top : (b : ℕ) → isDigit b ≡ true → b ≤ 57
 digit-top b e = by (leb 48 b) (leb b 57) refl e

@@ -4,5 +4,5 @@ pub mod Placed
 pub mod Bytes
 pub mod Number
 pub mod Answer
-pub mod Units
+pub mod Code
 pub mod Value

@@ -4,7 +4,7 @@ ghost use mathlib.Core.Path.{_≡_};
 ghost use Rattle.text.specs.Reader.{char, oneOf, among, letterOf, opt, until};
 ghost use Rattle.text.specs.Placed.{Reads};
 ghost use Rattle.text.specs.Number.{number, twoBytes, threeBytes};
-ghost use Rattle.text.specs.Units.{unit, leadUnit};
+ghost use Rattle.text.specs.Code.{unit, leadUnit};
 ghost use Rattle.text.specs.Answer.{wholeAt, next, part, lettered, field};
 
 // The next place, or no match.

@@ -7,18 +7,6 @@ use borrow.Author.Needs.{needs}
 use Rattle.capi.proofs.nmea_refusal.Statement.{statement}
 use Rattle.capi.proofs.nmea_refusal.Tie as tie
 
-judge-requires : tie.Need-judge-requires
-judge-requires c κs = search needs
-
-enum-told : tie.Need-enum-told
-enum-told c = search needs
-
-enum-known-why : tie.Need-enum-known-why
-enum-known-why c = search needs
-
-number-requires : tie.Need-number-requires
-number-requires c κs = search needs
-
 returns : tie.Need-returns
 returns c = said (now (c .before .before .before .before .args .line)) (c .before .before .judge .ensures .0) (c .enum-told .given .1) refl
 
@@ -31,9 +19,9 @@ pub nmea-refusal-spec : {M : Type 1} → statement M
 nmea-refusal-spec =
     tie.close
     (tie.spec
-    judge-requires
-    enum-told
-    enum-known-why
-    number-requires
+    (λ c κs. search needs)
+    (λ c. search needs)
+    (λ c. search needs)
+    (λ c κs. search needs)
     returns
     returns-2)

@@ -1,81 +1,48 @@
--- `put` meets its contract. The loop's invariant: the buffer is as it was with the first `i` words put in. Assumes nothing.
-use Prim.Native.Nat.{ℕ, _≤_, _-_, _+_}
-use native.Mathlib.Nat.{zero-add}
-use native.Mathlib.Numerals.{add-one}
-use native.Mathlib.Omega.{arith}
-use mathlib.Core.Path.{_≡_, refl, ap, sym, _∙_}
-use mathlib.Core.List.{List, _++_}
-use lib.ListN.{length, set, getD, drop, length-set}
-use lib.Seq.{paste, paste-zero, paste-suc, take-all}
+-- `put` meets its contract: each kind of answer has its words. Assumes nothing.
+use Prim.Native.Nat.{ℕ}
+use mathlib.Core.Path.{ap, sym, _∙_}
+use mathlib.Core.List.{List}
 use denote.Ref.{now}
+use Rattle.words.specs.Words.{into}
+use Rattle.sentence.specs.declared.Record.{Record}
+use Rattle.capi.specs.Code.{recordWords}
+use borrow.Author.Needs.{needs}
 use Rattle.capi.proofs.put.Statement.{statement}
 use Rattle.capi.proofs.put.Tie as tie
 
-abbrev Inv-loop : tie.InvT-loop
-Inv-loop out₀ w i₀ out i = (i ≤ 40) × (out ≡ paste out₀ 0 w i) × (length out ≡ length out₀)
+returns : tie.Need-returns
+returns c = c .before .before .put-rmc .ensures ∙ sym (ap (λ (r : Record). into (recordWords (c .before .before .before .before .before .before .before .before .before .before .before .args .p .satellites) (c .before .before .before .before .before .before .before .before .before .before .before .args .p .count) r) (now (c .before .before .before .before .before .before .before .before .before .before .before .args .out))) (c .before .before .before .before .before .before .before .answer .given .1))
 
-abbrev μ-loop : tie.MeasureT-loop
-μ-loop out₀ w i₀ out i = 40 - i
+returns-2 : tie.Need-returns-2
+returns-2 c = c .before .before .put-gsa .ensures ∙ sym (ap (λ (r : Record). into (recordWords (c .before .before .before .before .before .before .before .before .before .before .before .args .p .satellites) (c .before .before .before .before .before .before .before .before .before .before .before .args .p .count) r) (now (c .before .before .before .before .before .before .before .before .before .before .before .args .out))) (c .before .before .before .before .before .before .before .answer2 .given .1))
 
-loop-holds : tie.Need-loop-holds Inv-loop μ-loop
-loop-holds c = (omega arith, paste-zero (now (c .args .out)) 0 (c .args .t2), refl)
+returns-3 : tie.Need-returns-3
+returns-3 c = c .before .before .put-gsv .ensures ∙ sym (ap (λ (r : Record). into (recordWords (c .before .before .before .before .before .before .before .before .before .args .p .satellites) (c .before .before .before .before .before .before .before .before .before .args .p .count) r) (now (c .before .before .before .before .before .before .before .before .before .args .out))) (c .before .before .before .before .before .answer3 .given .1))
 
-mul-out : tie.Need-mul-out Inv-loop μ-loop
-mul-out c = omega arith
+returns-4 : tie.Need-returns-4
+returns-4 c = c .before .before .put-other .ensures ∙ sym (ap (λ (r : Record). into (recordWords (c .before .before .before .before .before .before .before .before .before .before .before .args .p .satellites) (c .before .before .before .before .before .before .before .before .before .before .before .args .p .count) r) (now (c .before .before .before .before .before .before .before .before .before .before .before .args .out))) (c .before .before .before .before .before .before .before .answer4 .given .1))
 
-array-read-out : tie.Need-array-read-out Inv-loop μ-loop
-array-read-out c = omega arith
-
-mul-out-2 : tie.Need-mul-out-2 Inv-loop μ-loop
-mul-out-2 c = omega arith
-
-slice-write-out : tie.Need-slice-write-out Inv-loop μ-loop
-slice-write-out c = omega arith
-
-add-i : tie.Need-add-i Inv-loop μ-loop
-add-i c = omega arith
-
-loop-less : tie.Need-loop-less Inv-loop μ-loop
-loop-less c = omega arith
-
-loop-again : tie.Need-loop-again Inv-loop μ-loop
-loop-again c =
-    let a = c .before .before .args in
-    let i = c .before .loop .i in
-    let out = c .before .loop .out in
-    let room : 40 ≤ length (now (a .out)) = c .before .before .pre in
-    let forty : length (a .t2) ≡ 40 = c .before .before .good .1 .0 .1 .0 .1 in (
-      omega arith,
-      ap (λ (l : List ℕ). set l i (getD (a .t2) i 0)) (c .before .loop .inv .1)
-          ∙ ap (λ (k : ℕ). set (paste (now (a .out)) 0 (a .t2) i) k (getD (a .t2) i 0)) (sym (zero-add i))
-          ∙ paste-suc (now (a .out)) 0 (a .t2) i 0 (omega arith) (omega arith)
-          ∙ ap (paste (now (a .out)) 0 (a .t2)) (sym (add-one i)),
-      length-set out i (getD (a .t2) i 0) ∙ c .before .loop .inv .2,
-    )
-
-same-length : tie.Need-same-length Inv-loop μ-loop
-same-length c = c .before .loop .inv .2
-
-returns : tie.Need-returns Inv-loop μ-loop
-returns c =
-    let a = c .before .before .args in
-    let forty : length (a .t2) ≡ 40 = c .before .before .good .1 .0 .1 .0 .1 in
-    let e : c .before .loop .i ≡ 40 = omega arith in
-    c .before .loop .inv .1 ∙ ap (paste (now (a .out)) 0 (a .t2)) e ∙ ap (λ (l : List ℕ). l ++ drop 40 (now (a .out))) (take-all 40 (a .t2) (omega arith))
+returns-5 : tie.Need-returns-5
+returns-5 c = c .before .before .put-refused .ensures ∙ sym (ap (λ (r : Record). into (recordWords (c .before .before .before .before .before .before .before .before .before .args .p .satellites) (c .before .before .before .before .before .before .before .before .before .args .p .count) r) (now (c .before .before .before .before .before .before .before .before .before .args .out))) (c .before .before .before .before .before .answer5 .given .1))
 
 pub put-spec : {M : Type 1} → statement M
-put-spec =
-    tie.close
-    (tie.spec
-    Inv-loop
-    μ-loop
-    loop-holds
-    mul-out
-    array-read-out
-    mul-out-2
-    slice-write-out
-    add-i
-    loop-less
-    loop-again
-    same-length
-    returns)
+put-spec = tie.close (tie.spec (λ c. search needs)
+    (λ c κs. search needs)
+    (λ c. search needs)
+    (λ c κs. search needs)
+    (λ c. search needs)
+    (λ c κs. search needs)
+    (λ c. search needs)
+    (λ c κs. search needs)
+    (λ c. search needs)
+    (λ c κs. search needs)
+    (λ c. search needs)
+    returns
+    (λ c. search needs)
+    returns-2
+    (λ c. search needs)
+    returns-3
+    (λ c. search needs)
+    returns-4
+    (λ c. search needs)
+    returns-5)

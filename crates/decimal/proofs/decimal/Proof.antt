@@ -18,20 +18,11 @@ front : (c : tie.After-known-told) → let a = c .before .before .before .before
     Ran (a .before) 0 (drop (a .at) (now (a .s))) (g .0) (g .1 .0) (drop (g .1 .1 .0) (now (a .s)))
 front c = let a = c .before .before .before .before .before .before .before .args in ran-got (a .before) 0 (drop (a .at) (now (a .s))) (took (c .before .before .before .run .ensures .0) (ap ran (c .before .v .given .1)) .reads)
 
-ends-requires : tie.Need-ends-requires
-ends-requires c κs = search needs
-
 returns : tie.Need-returns
 returns c = let a = c .before .before .before .args in (a-read (absent (limits (a .all) (a .before) (a .after)) (drop (a .at) (now (a .s))) (sym (c .before .ends .ensures .0) ∙ c .if1 .taken)) (omega arith) (omega arith), refl)
 
 run-requires : tie.Need-run-requires
 run-requires c κs = let a = c .before .before .before .args in omega (arith, under (a .before) 19 (omega arith))
-
-enum-known-v : tie.Need-enum-known-v
-enum-known-v c = search needs
-
-enum-told : tie.Need-enum-told
-enum-told c = search needs
 
 returns-2 : tie.Need-returns-2
 returns-2 c = let a = c .before .before .before .before .before .before .args in (bad-read (over (limits (a .all) (a .before) (a .after)) (drop (a .at) (now (a .s))) (sym (c .before .before .before .before .ends .ensures .0) ∙ c .before .before .before .if1 .left) (ran-over (a .before) 0 (drop (a .at) (now (a .s))) (barred (c .before .before .run .ensures .0) (ap ran (c .enum-told .given .1))))), refl)
@@ -39,20 +30,8 @@ returns-2 c = let a = c .before .before .before .before .before .before .args in
 returns-3 : tie.Need-returns-3
 returns-3 c = let a = c .before .before .before .before .before .before .before .before .args in (bad-read (case-zero (limits (a .all) (a .before) (a .after)) (drop (a .at) (now (a .s))) (drop (c .before .before .v .given .0 .1 .1 .0) (now (a .s))) (sym (c .before .before .before .before .before .before .ends .ensures .0) ∙ c .before .before .before .before .before .if1 .left) (front (c .before)) (c .if2 .taken)), refl)
 
-ends-requires-2 : tie.Need-ends-requires-2
-ends-requires-2 c κs = search needs
-
 returns-4 : tie.Need-returns-4
 returns-4 c = let a = c .before .before .before .before .before .before .before .before .before .before .args in let r = front (c .before .before .before) in let g = c .before .before .before .before .v .given .0 in let t = took (c .before .before .before .before .before .before .run .ensures .0) (ap ran (c .before .before .before .before .v .given .1)) in (a-read (case-whole (limits (a .all) (a .before) (a .after)) (drop (a .at) (now (a .s))) (drop (c .before .before .before .before .v .given .0 .1 .1 .0) (now (a .s))) (sym (c .before .before .before .before .before .before .before .before .ends .ensures .0) ∙ c .before .before .before .before .before .before .before .if1 .left) r (c .before .before .if2 .left) (omega arith) (sym (c .before .ends2 .ensures .0) ∙ c .if3 .taken)) (t .after) (t .within), refl)
-
-byte-requires : tie.Need-byte-requires
-byte-requires c κs = search needs
-
-enum-known-j : tie.Need-enum-known-j
-enum-known-j c = search needs
-
-enum-told-2 : tie.Need-enum-told-2
-enum-told-2 c = search needs
 
 returns-5 : tie.Need-returns-5
 returns-5 c = let a = c .before .before .before .before .before .before .before .before .before .before .before .before .before .args in (bad-read (case-other (limits (a .all) (a .before) (a .after)) (drop (a .at) (now (a .s))) (drop (c .before .before .before .before .before .before .before .v .given .0 .1 .1 .0) (now (a .s))) (sym (c .before .before .before .before .before .before .before .before .before .before .before .ends .ensures .0) ∙ c .before .before .before .before .before .before .before .before .before .before .if1 .left) (front (c .before .before .before .before .before .before)) (sym (c .before .before .before .before .ends2 .ensures .0) ∙ c .before .before .before .if3 .left) (missed (c .before .before .byte .ensures .0) (ap next (c .enum-told2 .given .1)))), refl)
@@ -60,26 +39,14 @@ returns-5 c = let a = c .before .before .before .before .before .before .before 
 sub-least : tie.Need-sub-least
 sub-least c = let a = c .before .before .before .before .before .before .before .before .before .before .before .before .before .before .args in let r = front (c .before .before .before .before .before .before .before) in omega (arith, r .few, r .count-is, c .before .before .before .before .before .before .before .before .before .before .before .before .before .before .pre)
 
-least-requires : tie.Need-least-requires
-least-requires c κs = search needs
-
 run-requires-2 : tie.Need-run-requires-2
 run-requires-2 c κs = let a = c .before .before .before .before .before .before .before .before .before .before .before .before .before .before .before .args in let r = front (c .before .before .before .before .before .before .before .before) in let g = c .before .before .before .before .before .before .before .before .before .v .given .0 in room-after (g .0) (g .1 .0) (c .least .result) (a .all) (omega (arith, ran-lt r)) (omega (arith, r .few, r .count-is, c .before .before .before .before .before .before .before .before .before .before .before .before .before .before .before .pre)) (c .before .before .before .before .before .before .before .before .before .before .before .before .before .before .before .pre .1)
-
-enum-known-w : tie.Need-enum-known-w
-enum-known-w c = search needs
-
-enum-told-3 : tie.Need-enum-told-3
-enum-told-3 c = search needs
 
 returns-6 : tie.Need-returns-6
 returns-6 c = let a = c .before .before .before .before .before .before .before .before .before .before .before .before .before .before .before .before .before .before .args in let r = front (c .before .before .before .before .before .before .before .before .before .before .before) in let p = (took (c .before .before .before .before .before .before .before .byte .ensures .0) (ap next (c .before .before .before .before .before .j .given .1)) .reads) in (bad-read (case-long (limits (a .all) (a .before) (a .after)) (drop (a .at) (now (a .s))) (drop (c .before .before .before .before .before .before .before .before .before .before .before .before .v .given .0 .1 .1 .0) (now (a .s))) (sym (c .before .before .before .before .before .before .before .before .before .before .before .before .before .before .before .before .ends .ensures .0) ∙ c .before .before .before .before .before .before .before .before .before .before .before .before .before .before .before .if1 .left) r _ p (too-long _ _ _ _ _ (c .before .before .before .least .ensures) (omega (arith, r .few, r .count-is, c .before .before .before .before .before .before .before .before .before .before .before .before .before .before .before .before .before .before .pre)) (ran-over (c .before .before .before .least .result) (c .before .before .before .before .before .before .before .before .before .before .before .before .v .given .0 .0) _ (barred (c .before .before .run2 .ensures .0) (ap ran (c .enum-told3 .given .1)))))), refl)
 
 returns-7 : tie.Need-returns-7
 returns-7 c = let a = c .before .before .before .before .before .before .before .before .before .before .before .before .before .before .before .before .before .before .before .before .args in let r = front (c .before .before .before .before .before .before .before .before .before .before .before .before .before) in let p = (took (c .before .before .before .before .before .before .before .before .before .byte .ensures .0) (ap next (c .before .before .before .before .before .before .before .j .given .1)) .reads) in let q = ran-got (c .before .before .before .before .before .least .result) (c .before .before .before .before .before .before .before .before .before .before .before .before .before .before .v .given .0 .0) _ (took (c .before .before .before .before .run2 .ensures .0) (ap ran (c .before .before .w .given .1)) .reads) in (bad-read (case-no-digits (limits (a .all) (a .before) (a .after)) (drop (a .at) (now (a .s))) (drop (c .before .before .before .before .before .before .before .before .before .before .before .before .before .before .v .given .0 .1 .1 .0) (now (a .s))) (sym (c .before .before .before .before .before .before .before .before .before .before .before .before .before .before .before .before .before .before .ends .ensures .0) ∙ c .before .before .before .before .before .before .before .before .before .before .before .before .before .before .before .before .before .if1 .left) r _ p q (c .if4 .taken)), refl)
-
-ends-requires-3 : tie.Need-ends-requires-3
-ends-requires-3 c κs = search needs
 
 returns-8 : tie.Need-returns-8
 returns-8 c = let a = c .before .before .before .before .before .before .before .before .before .before .before .before .before .before .before .before .before .before .before .before .before .before .args in let r = front (c .before .before .before .before .before .before .before .before .before .before .before .before .before .before .before) in let p = (took (c .before .before .before .before .before .before .before .before .before .before .before .byte .ensures .0) (ap next (c .before .before .before .before .before .before .before .before .before .j .given .1)) .reads) in let q = ran-got (c .before .before .before .before .before .before .before .least .result) (c .before .before .before .before .before .before .before .before .before .before .before .before .before .before .before .before .v .given .0 .0) _ (took (c .before .before .before .before .before .before .run2 .ensures .0) (ap ran (c .before .before .before .before .w .given .1)) .reads) in let g = c .before .before .before .before .before .before .before .before .before .before .before .before .before .before .before .before .v .given .0 in let h = c .before .before .before .before .w .given .0 in let t = took (c .before .before .before .before .before .before .before .before .before .before .before .before .before .before .before .before .before .before .run .ensures .0) (ap ran (c .before .before .before .before .before .before .before .before .before .before .before .before .before .before .before .before .v .given .1)) in let t′ = took (c .before .before .before .before .before .before .before .before .before .before .before .byte .ensures .0) (ap next (c .before .before .before .before .before .before .before .before .before .j .given .1)) in let t″ = took (c .before .before .before .before .before .before .run2 .ensures .0) (ap ran (c .before .before .before .before .w .given .1)) in (a-read (case-good (limits (a .all) (a .before) (a .after)) (drop (a .at) (now (a .s))) (drop (c .before .before .before .before .before .before .before .before .before .before .before .before .before .before .before .before .v .given .0 .1 .1 .0) (now (a .s))) (sym (c .before .before .before .before .before .before .before .before .before .before .before .before .before .before .before .before .before .before .before .before .ends .ensures .0) ∙ c .before .before .before .before .before .before .before .before .before .before .before .before .before .before .before .before .before .before .before .if1 .left) r _ p q (c .before .before .before .before .before .before .before .before .before .before .before .before .before .before .if2 .left) (c .before .before .if4 .left) (c .before .before .before .before .before .before .before .least .ensures .0) (omega (arith, c .before .before .before .before .before .before .before .least .ensures .1, r .few, r .count-is, c .before .before .before .before .before .before .before .before .before .before .before .before .before .before .before .before .before .before .before .before .before .before .pre)) (sym (c .before .ends3 .ensures .0) ∙ c .if5 .taken)) (omega (arith, t .after, t′ .after, t″ .after)) (omega (arith, t .within, t′ .within, t″ .within, t .after, t′ .after, t″ .after)), refl)
@@ -91,26 +58,26 @@ pub decimal-spec : {M : Type 1} → statement M
 decimal-spec =
     tie.close
     (tie.spec
-    ends-requires
+    (λ c κs. search needs)
     returns
     run-requires
-    enum-known-v
-    enum-told
+    (λ c. search needs)
+    (λ c. search needs)
     returns-2
     returns-3
-    ends-requires-2
+    (λ c κs. search needs)
     returns-4
-    byte-requires
-    enum-known-j
-    enum-told-2
+    (λ c κs. search needs)
+    (λ c. search needs)
+    (λ c. search needs)
     returns-5
     sub-least
-    least-requires
+    (λ c κs. search needs)
     run-requires-2
-    enum-known-w
-    enum-told-3
+    (λ c. search needs)
+    (λ c. search needs)
     returns-6
     returns-7
-    ends-requires-3
+    (λ c κs. search needs)
     returns-8
     returns-9)

@@ -13,20 +13,8 @@ use borrow.Author.Needs.{needs}
 use Rattle.decimal.proofs.long_decimal.Statement.{statement}
 use Rattle.decimal.proofs.long_decimal.Tie as tie
 
-decimal-requires : tie.Need-decimal-requires
-decimal-requires c κs = search needs
-
-enum-known-p : tie.Need-enum-known-p
-enum-known-p c = search needs
-
-enum-known-n : tie.Need-enum-known-n
-enum-known-n c = search needs
-
 sub-pow10 : tie.Need-sub-pow10
 sub-pow10 c = held long (c .before .before .before .decimal .ensures .0) (c .before .n .given .1) .few
-
-pow10-requires : tie.Need-pow10-requires
-pow10-requires c κs = search needs
 
 mul-billionths : tie.Need-mul-billionths
 mul-billionths c =
@@ -39,9 +27,6 @@ nearest-f64-requires : tie.Need-nearest-f64-requires
 nearest-f64-requires c κs =
     let h = held long (c .before .before .before .before .decimal .ensures .0) (c .before .before .n .given .1) in
     (h .small, h .few)
-
-enum-told : tie.Need-enum-told
-enum-told c = search needs
 
 returns : tie.Need-returns
 unfolding longDecimal
@@ -63,14 +48,14 @@ pub long-decimal-spec : {M : Type 1} → statement M
 long-decimal-spec =
     tie.close
     (tie.spec
-    decimal-requires
-    enum-known-p
-    enum-known-n
+    (λ c κs. search needs)
+    (λ c. search needs)
+    (λ c. search needs)
     sub-pow10
-    pow10-requires
+    (λ c κs. search needs)
     mul-billionths
     nearest-f64-requires
-    enum-told
+    (λ c. search needs)
     returns
     returns-2
     returns-3)

@@ -11,9 +11,6 @@ use Rattle.decimal.proofs.nearest_f32.Tie as tie
 int-to-float-result : tie.Need-int-to-float-result
 int-to-float-result c = in-float binary32 (c .before .args .size) (omega arith)
 
-pow10-requires : tie.Need-pow10-requires
-pow10-requires c κs = search needs
-
 int-to-float-result-2 : tie.Need-int-to-float-result-2
 int-to-float-result-2 c = let k = c .before .before .before .args .k in in-float binary32 (c .before .pow10 .result) (omega (arith, capped k (omega arith) (c .before .pow10 .ensures), under k 6 (omega arith)))
 
@@ -22,4 +19,4 @@ returns c = let k = c .before .before .before .args .k in divided binary32 (c .b
 
 pub nearest-f32-spec : {M : Type 1} → statement M
 nearest-f32-spec =
-    tie.close (tie.spec int-to-float-result pow10-requires int-to-float-result-2 returns)
+    tie.close (tie.spec int-to-float-result (λ c κs. search needs) int-to-float-result-2 returns)

@@ -5,14 +5,8 @@ use borrow.Author.Needs.{needs}
 use Rattle.decimal.proofs.pow10.Statement.{statement}
 use Rattle.decimal.proofs.pow10.Tie as tie
 
-least-requires : tie.Need-least-requires
-least-requires c κs = search needs
-
-tens-requires : tie.Need-tens-requires
-tens-requires c κs = search needs
-
 returns : tie.Need-returns
 returns c = c .tens .ensures ∙ ap (λ (j : ℕ). 10 ^ j) (c .before .least .ensures .2)
 
 pub pow10-spec : {M : Type 1} → statement M
-pow10-spec = tie.close (tie.spec least-requires tens-requires returns)
+pow10-spec = tie.close (tie.spec (λ c κs. search needs) (λ c κs. search needs) returns)

@@ -4,7 +4,7 @@ use mathlib.Core.Path.{_≡_, refl, _∙_}
 use denote.Ref.{now}
 use lib.ListN.{length, drop}
 use borrow.Author.Needs.{needs}
-use Rattle.decimal.specs.Run.{run}
+use Rattle.decimal.specs.Code.{run}
 use Rattle.text.proofs.Places.{a-read, bad-read}
 use Rattle.decimal.proofs.Runs.{run-more, run-stop, run-over, run-end, digit-more, room}
 use Rattle.decimal.proofs.run.Statement.{statement}
@@ -21,12 +21,6 @@ abbrev μ-loop : tie.MeasureT-loop
 loop-holds : tie.Need-loop-holds Inv-loop μ-loop
 loop-holds c = (omega arith, omega arith, omega arith, omega arith, refl)
 
-shared-slice-read-b : tie.Need-shared-slice-read-b Inv-loop μ-loop
-shared-slice-read-b c = search needs
-
-unit-requires : tie.Need-unit-requires Inv-loop μ-loop
-unit-requires c κs = search needs
-
 returns : tie.Need-returns Inv-loop μ-loop
 returns c = let a = c .before .before .before .before .before .before .args in let l = c .before .before .before .before .loop in (a-read (l .inv .4 ∙ run-stop (a .most) (l .v) (l .n) (now (a .s)) (l .i) (c .before .before .before .loop-test .taken) (c .before .unit .ensures) (c .if1 .taken) (l .inv .2)) (l .inv .0) (l .inv .1), refl)
 
@@ -36,20 +30,8 @@ returns-2 c = let a = c .before .before .before .before .before .before .before 
 mul-v : tie.Need-mul-v Inv-loop μ-loop
 mul-v c = let a = c .before .before .before .before .before .before .before .args in let l = c .before .before .before .before .before .loop in omega (arith, digit-more (a .value + 1) (l .n) (l .v) 0 (l .inv .3) (omega arith), room (a .value + 1) (l .n + 1) (a .most) (omega arith), c .before .before .before .before .before .before .before .pre)
 
-wide-requires : tie.Need-wide-requires Inv-loop μ-loop
-wide-requires c κs = search needs
-
 add-v : tie.Need-add-v Inv-loop μ-loop
 add-v c = let a = c .before .before .before .before .before .before .before .before .args in let l = c .before .before .before .before .before .before .loop in omega (arith, digit-more (a .value + 1) (l .n) (l .v) (c .wide .result) (l .inv .3) (omega arith), room (a .value + 1) (l .n + 1) (a .most) (omega arith), c .before .before .before .before .before .before .before .before .pre)
-
-add-n : tie.Need-add-n Inv-loop μ-loop
-add-n c = search needs
-
-add-i : tie.Need-add-i Inv-loop μ-loop
-add-i c = search needs
-
-loop-less : tie.Need-loop-less Inv-loop μ-loop
-loop-less c = search needs
 
 loop-again : tie.Need-loop-again Inv-loop μ-loop
 loop-again c = let a = c .before .before .before .before .before .before .before .before .args in let l = c .before .before .before .before .before .before .loop in (omega arith, omega arith, omega arith, digit-more (a .value + 1) (l .n) (l .v) (c .wide .result) (l .inv .3) (omega arith), l .inv .4 ∙ run-more (a .most) (l .v) (l .n) (now (a .s)) (l .i) (c .before .before .before .before .before .loop-test .taken) (c .wide .ensures ∙ c .before .before .before .unit .ensures) (omega arith))
@@ -64,15 +46,15 @@ run-spec =
     Inv-loop
     μ-loop
     loop-holds
-    shared-slice-read-b
-    unit-requires
+    (λ c. search needs)
+    (λ c κs. search needs)
     returns
     returns-2
     mul-v
-    wide-requires
+    (λ c κs. search needs)
     add-v
-    add-n
-    add-i
-    loop-less
+    (λ c. search needs)
+    (λ c. search needs)
+    (λ c. search needs)
     loop-again
     returns-3)

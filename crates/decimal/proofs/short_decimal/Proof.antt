@@ -15,15 +15,6 @@ use borrow.Author.Needs.{needs}
 use Rattle.decimal.proofs.short_decimal.Statement.{statement}
 use Rattle.decimal.proofs.short_decimal.Tie as tie
 
-decimal-requires : tie.Need-decimal-requires
-decimal-requires c κs = search needs
-
-enum-known-p : tie.Need-enum-known-p
-enum-known-p c = search needs
-
-enum-known-n : tie.Need-enum-known-n
-enum-known-n c = search needs
-
 cast-size : tie.Need-cast-size
 cast-size c = let h = held short (c .before .before .before .decimal .ensures .0) (c .before .n .given .1) in omega (arith, h .small)
 
@@ -35,9 +26,6 @@ cast-whole c =
     let h = held short (c .before .before .before .before .decimal .ensures .0) (c .before .before .n .given .1) in
     let small = h .small in
     search needs
-
-enum-told : tie.Need-enum-told
-enum-told c = search needs
 
 returns : tie.Need-returns
 unfolding shortDecimal
@@ -61,13 +49,13 @@ pub short-decimal-spec : {M : Type 1} → statement M
 short-decimal-spec =
     tie.close
     (tie.spec
-    decimal-requires
-    enum-known-p
-    enum-known-n
+    (λ c κs. search needs)
+    (λ c. search needs)
+    (λ c. search needs)
     cast-size
     nearest-f32-requires
     cast-whole
-    enum-told
+    (λ c. search needs)
     returns
     returns-2
     returns-3)

@@ -20,24 +20,12 @@ Inv-loop s at first i₀ i =
 abbrev μ-loop : tie.MeasureT-loop
 μ-loop s at first i₀ i = length s - i
 
-byte-requires : tie.Need-byte-requires Inv-loop μ-loop
-byte-requires c κs = search needs
-
-enum-known-first : tie.Need-enum-known-first Inv-loop μ-loop
-enum-known-first c = search needs
-
-enum-told : tie.Need-enum-told Inv-loop μ-loop
-enum-told c = search needs
-
 returns : tie.Need-returns Inv-loop μ-loop
 unfolding takeWhile1
 returns c = (stop _ (c .before .before .byte .ensures .0) (ap next (c .enum-told .given .1)), refl)
 
 loop-holds : tie.Need-loop-holds Inv-loop μ-loop
 loop-holds c = (omega arith, omega arith, refl)
-
-shared-slice-read-if1 : tie.Need-shared-slice-read-if1 Inv-loop μ-loop
-shared-slice-read-if1 c = search needs
 
 returns-2 : tie.Need-returns-2 Inv-loop μ-loop
 unfolding takeWhile1
@@ -48,12 +36,6 @@ returns-2 c =
           (a-read (l .loop .inv .2 ∙ skip-stop _ _ _ (c .before .before .loop-test .taken) (c .if1 .taken)) (l .loop .inv .0) (l .loop .inv .1)),
       refl,
     )
-
-add-i : tie.Need-add-i Inv-loop μ-loop
-add-i c = search needs
-
-loop-less : tie.Need-loop-less Inv-loop μ-loop
-loop-less c = search needs
 
 loop-again : tie.Need-loop-again Inv-loop μ-loop
 loop-again c =
@@ -76,14 +58,14 @@ commas-spec =
     (tie.spec
     Inv-loop
     μ-loop
-    byte-requires
-    enum-known-first
-    enum-told
+    (λ c κs. search needs)
+    (λ c. search needs)
+    (λ c. search needs)
     returns
     loop-holds
-    shared-slice-read-if1
+    (λ c. search needs)
     returns-2
-    add-i
-    loop-less
+    (λ c. search needs)
+    (λ c. search needs)
     loop-again
     returns-3)

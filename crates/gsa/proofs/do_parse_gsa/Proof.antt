@@ -14,65 +14,17 @@ use borrow.Author.Needs.{needs}
 use Rattle.gsa.proofs.do_parse_gsa.Statement.{statement}
 use Rattle.gsa.proofs.do_parse_gsa.Tie as tie
 
-one-of-requires : tie.Need-one-of-requires
-one-of-requires c κs = search needs
-
-enum-known-mode : tie.Need-enum-known-mode
-enum-known-mode c = search needs
-
-enum-told : tie.Need-enum-told
-enum-told c = search needs
-
-without-requires : tie.Need-without-requires
-without-requires c κs = search needs
-
 returns : tie.Need-returns
 unfolding gsa
 returns c = (syntax-answer (c .without .ensures) (search steps depth 16), refl)
-
-byte-requires : tie.Need-byte-requires
-byte-requires c κs = search needs
-
-enum-known-at : tie.Need-enum-known-at
-enum-known-at c = search needs
-
-enum-told-2 : tie.Need-enum-told-2
-enum-told-2 c = search needs
-
-without-requires-2 : tie.Need-without-requires-2
-without-requires-2 c κs = search needs
 
 returns-2 : tie.Need-returns-2
 unfolding gsa
 returns-2 c = (syntax-answer (c .without2 .ensures) (search steps depth 16), refl)
 
-fix-requires : tie.Need-fix-requires
-fix-requires c κs = search needs
-
-enum-known-fix : tie.Need-enum-known-fix
-enum-known-fix c = search needs
-
-enum-told-3 : tie.Need-enum-told-3
-enum-told-3 c = search needs
-
-without-requires-3 : tie.Need-without-requires-3
-without-requires-3 c κs = search needs
-
 returns-3 : tie.Need-returns-3
 unfolding gsa
 returns-3 c = (syntax-answer (c .without3 .ensures) (search steps depth 16), refl)
-
-byte-requires-2 : tie.Need-byte-requires-2
-byte-requires-2 c κs = search needs
-
-enum-known-at-2 : tie.Need-enum-known-at-2
-enum-known-at-2 c = search needs
-
-enum-told-4 : tie.Need-enum-told-4
-enum-told-4 c = search needs
-
-without-requires-4 : tie.Need-without-requires-4
-without-requires-4 c κs = search needs
 
 returns-4 : tie.Need-returns-4
 unfolding gsa
@@ -102,15 +54,6 @@ led c u =
     (go-letter _ (f .fix2 .given .1) (f .before .before .fix .ensures .0)
     (go-next _ (a .at2 .given .1) (a .before .before .byte2 .ensures .0) u)))
 
-empty-tail-requires : tie.Need-empty-tail-requires
-empty-tail-requires c κs = search needs
-
-enum-known-system : tie.Need-enum-known-system
-enum-known-system c = search needs
-
-without-requires-5 : tie.Need-without-requires-5
-without-requires-5 c κs = search needs
-
 returns-5 : tie.Need-returns-5
 unfolding rest
 returns-5 c =
@@ -120,27 +63,6 @@ returns-5 c =
           (led (e .before) (go-empty _ _ (v .system .given .1) (e .empty-tail .ensures .0) (done _ _ _))),
       refl,
     )
-
-enum-told-5 : tie.Need-enum-told-5
-enum-told-5 c = search needs
-
-full-tail-requires : tie.Need-full-tail-requires
-full-tail-requires c κs = search needs
-
-enum-told-6 : tie.Need-enum-told-6
-enum-told-6 c = search needs
-
-without-requires-6 : tie.Need-without-requires-6
-without-requires-6 c κs = search needs
-
-enum-told-7 : tie.Need-enum-told-7
-enum-told-7 c = search needs
-
-without-requires-7 : tie.Need-without-requires-7
-without-requires-7 c κs = search needs
-
-enum-known-answer : tie.Need-enum-known-answer
-enum-known-answer c = search needs
 
 returns-6 : tie.Need-returns-6
 unfolding rest
@@ -181,37 +103,37 @@ pub do-parse-gsa-spec : {M : Type 1} → statement M
 do-parse-gsa-spec =
     tie.close
     (tie.spec
-    one-of-requires
-    enum-known-mode
-    enum-told
-    without-requires
+    (λ c κs. search needs)
+    (λ c. search needs)
+    (λ c. search needs)
+    (λ c κs. search needs)
     returns
-    byte-requires
-    enum-known-at
-    enum-told-2
-    without-requires-2
+    (λ c κs. search needs)
+    (λ c. search needs)
+    (λ c. search needs)
+    (λ c κs. search needs)
     returns-2
-    fix-requires
-    enum-known-fix
-    enum-told-3
-    without-requires-3
+    (λ c κs. search needs)
+    (λ c. search needs)
+    (λ c. search needs)
+    (λ c κs. search needs)
     returns-3
-    byte-requires-2
-    enum-known-at-2
-    enum-told-4
-    without-requires-4
+    (λ c κs. search needs)
+    (λ c. search needs)
+    (λ c. search needs)
+    (λ c κs. search needs)
     returns-4
-    empty-tail-requires
-    enum-known-system
-    without-requires-5
+    (λ c κs. search needs)
+    (λ c. search needs)
+    (λ c κs. search needs)
     returns-5
-    enum-told-5
-    full-tail-requires
-    enum-told-6
-    without-requires-6
-    enum-told-7
-    without-requires-7
-    enum-known-answer
+    (λ c. search needs)
+    (λ c κs. search needs)
+    (λ c. search needs)
+    (λ c κs. search needs)
+    (λ c. search needs)
+    (λ c κs. search needs)
+    (λ c. search needs)
     returns-6
     returns-7
     returns-8)

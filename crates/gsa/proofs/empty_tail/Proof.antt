@@ -8,21 +8,9 @@ use borrow.Author.Needs.{needs}
 use Rattle.gsa.proofs.empty_tail.Statement.{statement}
 use Rattle.gsa.proofs.empty_tail.Tie as tie
 
-commas-requires : tie.Need-commas-requires
-commas-requires c κs = search needs
-
-enum-known-at : tie.Need-enum-known-at
-enum-known-at c = search needs
-
-enum-told : tie.Need-enum-told
-enum-told c = search needs
-
 returns : tie.Need-returns
 unfolding emptyTail
 returns c = (stop _ (c .before .before .commas .ensures .0) (ap next (c .enum-told .given .1)), refl)
-
-last-system-requires : tie.Need-last-system-requires
-last-system-requires c κs = search needs
 
 returns-2 : tie.Need-returns-2
 unfolding emptyTail
@@ -33,4 +21,4 @@ returns-2 c =
 pub empty-tail-spec : {M : Type 1} → statement M
 empty-tail-spec =
     tie.close
-    (tie.spec commas-requires enum-known-at enum-told returns last-system-requires returns-2)
+    (tie.spec (λ c κs. search needs) (λ c. search needs) (λ c. search needs) returns (λ c κs. search needs) returns-2)

@@ -6,24 +6,6 @@ use borrow.Author.Needs.{needs}
 use Rattle.gsa.proofs.full_tail.Statement.{statement}
 use Rattle.gsa.proofs.full_tail.Tie as tie
 
-prn-fields-requires : tie.Need-prn-fields-requires
-prn-fields-requires c κs = search needs
-
-three-dops-requires : tie.Need-three-dops-requires
-three-dops-requires c κs = search needs
-
-enum-told : tie.Need-enum-told
-enum-told c = search needs
-
-enum-told-2 : tie.Need-enum-told-2
-enum-told-2 c = search needs
-
-enum-known-pdop : tie.Need-enum-known-pdop
-enum-known-pdop c = search needs
-
-opt-system-requires : tie.Need-opt-system-requires
-opt-system-requires c κs = search needs
-
 returns : tie.Need-returns
 unfolding fullTail
 returns c = (search steps depth 12, c .before .before .before .before .prn-fields .ensures .1, refl)
@@ -40,12 +22,12 @@ pub full-tail-spec : {M : Type 1} → statement M
 full-tail-spec =
     tie.close
     (tie.spec
-    prn-fields-requires
-    three-dops-requires
-    enum-told
-    enum-told-2
-    enum-known-pdop
-    opt-system-requires
+    (λ c κs. search needs)
+    (λ c κs. search needs)
+    (λ c. search needs)
+    (λ c. search needs)
+    (λ c. search needs)
+    (λ c κs. search needs)
     returns
     returns-2
     returns-3)

@@ -9,15 +9,9 @@ use borrow.Author.Needs.{needs}
 use Rattle.gsa.proofs.last_system.Statement.{statement}
 use Rattle.gsa.proofs.last_system.Tie as tie
 
-opt-number-requires : tie.Need-opt-number-requires
-opt-number-requires c κs = search needs
-
 returns : tie.Need-returns
 unfolding lastSystem allConsuming
 returns c = (stop _ (go-field _ (c .before .opt-number .result) (c .before .opt-number .ensures .0) (stop _ (not-end (c .if1 .taken)) refl)) refl, refl)
-
-if-known-requires : tie.Need-if-known-requires
-if-known-requires c κs = search needs
 
 returns-2 : tie.Need-returns-2
 unfolding lastSystem allConsuming
@@ -28,4 +22,4 @@ returns-2 c = (
 )
 
 pub last-system-spec : {M : Type 1} → statement M
-last-system-spec = tie.close (tie.spec opt-number-requires returns if-known-requires returns-2)
+last-system-spec = tie.close (tie.spec (λ c κs. search needs) returns (λ c κs. search needs) returns-2)

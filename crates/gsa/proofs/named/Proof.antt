@@ -7,9 +7,6 @@ use borrow.Author.Needs.{needs}
 use Rattle.gsa.proofs.named.Statement.{statement}
 use Rattle.gsa.proofs.named.Tie as tie
 
-named-by-g-requires : tie.Need-named-by-g-requires
-named-by-g-requires c κs = search needs
-
 returns : tie.Need-returns
 returns c =
     c .named-by-g .ensures ∙ ap (λ (a : ℕ). named a (c .before .before .args .b)) (sym (c .before .if1 .taken))
@@ -24,4 +21,4 @@ returns-4 : tie.Need-returns-4
 returns-4 c = unnamed (c .before .before .args .a) (c .before .before .args .b) (c .before .if1 .left) (c .if2 .left)
 
 pub named-spec : {M : Type 1} → statement M
-named-spec = tie.close (tie.spec named-by-g-requires returns returns-2 returns-3 returns-4)
+named-spec = tie.close (tie.spec (λ c κs. search needs) returns returns-2 returns-3 returns-4)

@@ -8,28 +8,10 @@ use borrow.Author.Needs.{needs}
 use Rattle.gsa.proofs.opt_system.Statement.{statement}
 use Rattle.gsa.proofs.opt_system.Tie as tie
 
-byte-requires : tie.Need-byte-requires
-byte-requires c κs = search needs
-
-enum-known-digits : tie.Need-enum-known-digits
-enum-known-digits c = search needs
-
-enum-told : tie.Need-enum-told
-enum-told c = search needs
-
 returns : tie.Need-returns
 unfolding optSystem afterComma
 returns c =
     (go _ (opt-none _ (stop _ (c .before .before .byte .ensures .0) (ap next (c .enum-told .given .1))) refl) refl (done _ _ _), refl)
-
-number-requires : tie.Need-number-requires
-number-requires c κs = search needs
-
-enum-known-n : tie.Need-enum-known-n
-enum-known-n c = search needs
-
-enum-told-2 : tie.Need-enum-told-2
-enum-told-2 c = search needs
 
 returns-2 : tie.Need-returns-2
 unfolding optSystem afterComma
@@ -40,9 +22,6 @@ returns-2 c =
           refl (done _ _ _),
       refl,
     )
-
-known-requires : tie.Need-known-requires
-known-requires c κs = search needs
 
 returns-3 : tie.Need-returns-3
 unfolding optSystem afterComma
@@ -59,13 +38,13 @@ pub opt-system-spec : {M : Type 1} → statement M
 opt-system-spec =
     tie.close
     (tie.spec
-    byte-requires
-    enum-known-digits
-    enum-told
+    (λ c κs. search needs)
+    (λ c. search needs)
+    (λ c. search needs)
     returns
-    number-requires
-    enum-known-n
-    enum-told-2
+    (λ c κs. search needs)
+    (λ c. search needs)
+    (λ c. search needs)
     returns-2
-    known-requires
+    (λ c κs. search needs)
     returns-3)

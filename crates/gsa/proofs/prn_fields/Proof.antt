@@ -22,15 +22,6 @@ abbrev μ-loop : tie.MeasureT-loop
 loop-holds : tie.Need-loop-holds Inv-loop μ-loop
 loop-holds c = start (now (c .before .args .s)) (c .before .args .at)
 
-prn-field-requires : tie.Need-prn-field-requires Inv-loop μ-loop
-prn-field-requires c κs = search needs
-
-enum-known-v : tie.Need-enum-known-v Inv-loop μ-loop
-enum-known-v c = search needs
-
-enum-told : tie.Need-enum-told Inv-loop μ-loop
-enum-told c = search needs
-
 returns : tie.Need-returns Inv-loop μ-loop
 returns c =
     let k = c .before .before in
@@ -51,12 +42,6 @@ loop-again c = dropped (c .before .before .before .before .before .loop .inv) (t
 
 add-seen : tie.Need-add-seen Inv-loop μ-loop
 add-seen c = let h = at-most (c .before .before .before .before .before .loop .inv) in search needs
-
-enum-known-v-2 : tie.Need-enum-known-v-2 Inv-loop μ-loop
-enum-known-v-2 c = search needs
-
-enum-told-2 : tie.Need-enum-told-2 Inv-loop μ-loop
-enum-told-2 c = search needs
 
 loop-less-2 : tie.Need-loop-less-2 Inv-loop μ-loop
 loop-less-2 c = let k = c .before .before .before in moves (k .before .before .before .before .loop .inv) (turn k)
@@ -97,15 +82,15 @@ prn-fields-spec =
     Inv-loop
     μ-loop
     loop-holds
-    prn-field-requires
-    enum-known-v
-    enum-told
+    (λ c κs. search needs)
+    (λ c. search needs)
+    (λ c. search needs)
     returns
     loop-less
     loop-again
     add-seen
-    enum-known-v-2
-    enum-told-2
+    (λ c. search needs)
+    (λ c. search needs)
     loop-less-2
     loop-again-2
     mul-satellites

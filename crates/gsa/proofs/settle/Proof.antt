@@ -7,21 +7,6 @@ use borrow.Author.Needs.{needs}
 use Rattle.gsa.proofs.settle.Statement.{statement}
 use Rattle.gsa.proofs.settle.Tie as tie
 
-named-requires : tie.Need-named-requires
-named-requires c κs = search needs
-
-enum-known-talker : tie.Need-enum-known-talker
-enum-known-talker c = search needs
-
-enum-told : tie.Need-enum-told
-enum-told c = search needs
-
-enum-known-tail : tie.Need-enum-known-tail
-enum-known-tail c = search needs
-
-enum-told-2 : tie.Need-enum-told-2
-enum-told-2 c = search needs
-
 returns : tie.Need-returns
 returns c =
     let k = c .before .before .before in
@@ -31,12 +16,6 @@ returns-2 : tie.Need-returns-2
 returns-2 c =
     let k = c .before .before in
     both (sym (ap system (k .enum-told .given .1)) ∙ k .before .before .named .ensures) (sym (ap system (c .enum-told2 .given .1)))
-
-enum-known-tail-2 : tie.Need-enum-known-tail-2
-enum-known-tail-2 c = search needs
-
-enum-told-3 : tie.Need-enum-told-3
-enum-told-3 c = search needs
 
 returns-3 : tie.Need-returns-3
 returns-3 c =
@@ -61,15 +40,15 @@ pub settle-spec : {M : Type 1} → statement M
 settle-spec =
     tie.close
     (tie.spec
-    named-requires
-    enum-known-talker
-    enum-told
-    enum-known-tail
-    enum-told-2
+    (λ c κs. search needs)
+    (λ c. search needs)
+    (λ c. search needs)
+    (λ c. search needs)
+    (λ c. search needs)
     returns
     returns-2
-    enum-known-tail-2
-    enum-told-3
+    (λ c. search needs)
+    (λ c. search needs)
     returns-3
     returns-4
     returns-5)

@@ -3,8 +3,5 @@ use mathlib.Core.Path.{refl}
 use Rattle.gsa.proofs.without.Statement.{statement}
 use Rattle.gsa.proofs.without.Tie as tie
 
-returns : tie.Need-returns
-returns c = refl
-
 pub without-spec : {M : Type 1} → statement M
-without-spec = tie.close (tie.spec returns)
+without-spec = tie.close (tie.spec (λ c. refl))

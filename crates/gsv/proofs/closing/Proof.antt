@@ -11,12 +11,9 @@ returns : tie.Need-returns
 unfolding closing
 returns c = (a-read (rw (ended _ _ (c .if1 .taken))) (omega arith) (omega arith), refl)
 
-byte-requires : tie.Need-byte-requires
-byte-requires c κs = search needs
-
 returns-2 : tie.Need-returns-2
 unfolding closing
 returns-2 c = (alike (c .byte .ensures .0) (rw (here _ _ (c .before .if1 .left))), refl)
 
 pub closing-spec : {M : Type 1} → statement M
-closing-spec = tie.close (tie.spec returns byte-requires returns-2)
+closing-spec = tie.close (tie.spec returns (λ c κs. search needs) returns-2)

@@ -6,15 +6,6 @@ use borrow.Author.Needs.{needs}
 use Rattle.gsv.proofs.opt_entry.Statement.{statement}
 use Rattle.gsv.proofs.opt_entry.Tie as tie
 
-parse-gsv-sat-info-requires : tie.Need-parse-gsv-sat-info-requires
-parse-gsv-sat-info-requires c κs = search needs
-
-enum-known-t : tie.Need-enum-known-t
-enum-known-t c = search needs
-
-enum-told : tie.Need-enum-told
-enum-told c = search needs
-
 returns : tie.Need-returns
 returns c = (opt-some _ (c .before .before .before .parse-gsv-sat-info .ensures .0) (ap entryAt (c .before .t .given .1)), refl)
 
@@ -23,4 +14,4 @@ returns-2 c = (opt-none _ (c .before .before .parse-gsv-sat-info .ensures .0) (a
 
 pub opt-entry-spec : {M : Type 1} → statement M
 opt-entry-spec =
-    tie.close (tie.spec parse-gsv-sat-info-requires enum-known-t enum-told returns returns-2)
+    tie.close (tie.spec (λ c κs. search needs) (λ c. search needs) (λ c. search needs) returns returns-2)

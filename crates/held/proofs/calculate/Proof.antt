@@ -6,18 +6,6 @@ use Rattle.held.proofs.Told.{told-is, told-refused}
 use Rattle.held.proofs.calculate.Statement.{statement}
 use Rattle.held.proofs.calculate.Tie as tie
 
-parse-nmea-sentence-requires : tie.Need-parse-nmea-sentence-requires
-parse-nmea-sentence-requires c κs = search needs
-
-enum-known-x : tie.Need-enum-known-x
-enum-known-x c = search needs
-
-line-checksum-requires : tie.Need-line-checksum-requires
-line-checksum-requires c κs = search needs
-
-enum-known-r : tie.Need-enum-known-r
-enum-known-r c = search needs
-
 returns : tie.Need-returns
 returns c =
     let k = c .before .before in
@@ -32,9 +20,9 @@ pub calculate-spec : {M : Type 1} → statement M
 calculate-spec =
     tie.close
     (tie.spec
-    parse-nmea-sentence-requires
-    enum-known-x
-    line-checksum-requires
-    enum-known-r
+    (λ c κs. search needs)
+    (λ c. search needs)
+    (λ c κs. search needs)
+    (λ c. search needs)
     returns
     returns-2)

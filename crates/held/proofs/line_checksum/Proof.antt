@@ -44,7 +44,7 @@ use Rattle.frame.specs.declared.refusal.Kind.{Kind}
 use Rattle.frame.specs.declared.sentence.Sentence.{Sentence}
 use Rattle.frame.proofs.sentence.Sentence as S
 use Rattle.frame.proofs.sentence.Sentence.Laws as S′
-use Rattle.held.specs.Calculated.{sumOf}
+use Rattle.held.specs.Answer.{sumOf}
 use Rattle.held.specs.declared.NmeaSentence.{NmeaSentence}
 use Rattle.held.proofs.NmeaSentence as T
 use Rattle.held.proofs.NmeaSentence.Laws as T′

@@ -8,24 +8,6 @@ use Rattle.nmea_log.proofs.Behind.{behind}
 use Rattle.nmea_log.proofs.read_after.Statement.{statement}
 use Rattle.nmea_log.proofs.read_after.Tie as tie
 
-returns : tie.Need-returns
-returns c = search needs
-
-sub-read-some : tie.Need-sub-read-some
-sub-read-some c = search needs
-
-part-read-some-start : tie.Need-part-read-some-start
-part-read-some-start c = search needs
-
-part-read-some-end : tie.Need-part-read-some-end
-part-read-some-end c = search needs
-
-read-some-requires : tie.Need-read-some-requires
-read-some-requires c κs = search needs
-
-same-length : tie.Need-same-length
-same-length c = search needs
-
 returns-2 : tie.Need-returns-2
 returns-2 c =
     let start = c .before .before .before .before .before .before in
@@ -38,10 +20,10 @@ pub read-after-spec : {M : Type 1} → statement M
 read-after-spec =
     tie.close
     (tie.spec
-    returns
-    sub-read-some
-    part-read-some-start
-    part-read-some-end
-    read-some-requires
-    same-length
+    (λ c. search needs)
+    (λ c. search needs)
+    (λ c. search needs)
+    (λ c. search needs)
+    (λ c κs. search needs)
+    (λ c. search needs)
     returns-2)

@@ -13,15 +13,6 @@ Inv-loop space₀ done₀ space done = (done ≤ length space) × (length space 
 abbrev μ-loop : tie.MeasureT-loop
 μ-loop space₀ done₀ space done = length space - done
 
-loop-holds : tie.Need-loop-holds Inv-loop μ-loop
-loop-holds c = search needs
-
-read-after-requires : tie.Need-read-after-requires Inv-loop μ-loop
-read-after-requires c κs = search needs
-
-enum-known-n : tie.Need-enum-known-n Inv-loop μ-loop
-enum-known-n c = search needs
-
 loop-again : tie.Need-loop-again Inv-loop μ-loop
 loop-again c = search (needs, more (c .before .before .before .before .before .before .before .loop .done) (c .before .before .before .before .before .read-after .last .0) (c .before .before .before .before .before .read-after .ensures) (c .before .n .given .1))
 
@@ -31,39 +22,21 @@ add-done c = search (needs, loop-again c)
 loop-less : tie.Need-loop-less Inv-loop μ-loop
 loop-less c = search (needs, more (c .before .before .before .before .before .before .before .loop .done) (c .before .before .before .before .before .read-after .last .0) (c .before .before .before .before .before .read-after .ensures) (c .before .n .given .1))
 
-enum-told : tie.Need-enum-told Inv-loop μ-loop
-enum-told c = search needs
-
-same-length : tie.Need-same-length Inv-loop μ-loop
-same-length c = search needs
-
-returns : tie.Need-returns Inv-loop μ-loop
-returns c = search needs
-
-enum-told-2 : tie.Need-enum-told-2 Inv-loop μ-loop
-enum-told-2 c = search needs
-
-same-length-2 : tie.Need-same-length-2 Inv-loop μ-loop
-same-length-2 c = search needs
-
-returns-2 : tie.Need-returns-2 Inv-loop μ-loop
-returns-2 c = search needs
-
 pub read-log-spec : {M : Type 1} → statement M
 read-log-spec =
     tie.close
     (tie.spec
     Inv-loop
     μ-loop
-    loop-holds
-    read-after-requires
-    enum-known-n
+    (λ c. search needs)
+    (λ c κs. search needs)
+    (λ c. search needs)
     add-done
     loop-less
     loop-again
-    enum-told
-    same-length
-    returns
-    enum-told-2
-    same-length-2
-    returns-2)
+    (λ c. search needs)
+    (λ c. search needs)
+    (λ c. search needs)
+    (λ c. search needs)
+    (λ c. search needs)
+    (λ c. search needs))

@@ -7,27 +7,9 @@ use borrow.Author.Needs.{needs}
 use Rattle.rmc.proofs.after_comma.Statement.{statement}
 use Rattle.rmc.proofs.after_comma.Tie as tie
 
-byte-requires : tie.Need-byte-requires
-byte-requires c κs = search needs
-
-enum-known-next : tie.Need-enum-known-next
-enum-known-next c = search needs
-
-enum-told : tie.Need-enum-told
-enum-told c = search needs
-
 returns : tie.Need-returns
 unfolding optLetter ifComma
 returns c = (go _ (opt-none _ (c .before .before .byte .ensures .0) (ap next (c .enum-told .given .1))) refl (done _ _ _), refl, refl)
-
-one-among-requires : tie.Need-one-among-requires
-one-among-requires c κs = search needs
-
-enum-told-2 : tie.Need-enum-told-2
-enum-told-2 c = search needs
-
-enum-known-b : tie.Need-enum-known-b
-enum-known-b c = search needs
 
 returns-2 : tie.Need-returns-2
 unfolding optLetter ifComma
@@ -45,12 +27,12 @@ pub after-comma-spec : {M : Type 1} → statement M
 after-comma-spec =
     tie.close
     (tie.spec
-    byte-requires
-    enum-known-next
-    enum-told
+    (λ c κs. search needs)
+    (λ c. search needs)
+    (λ c. search needs)
     returns
-    one-among-requires
-    enum-told-2
-    enum-known-b
+    (λ c κs. search needs)
+    (λ c. search needs)
+    (λ c. search needs)
     returns-2
     returns-3)

@@ -6,28 +6,13 @@ use borrow.Author.Needs.{needs}
 use Rattle.rmc.proofs.letters_part.Statement.{statement}
 use Rattle.rmc.proofs.letters_part.Tie as tie
 
-slice-aggregate-after-comma : tie.Need-slice-aggregate-after-comma
-slice-aggregate-after-comma c = search needs
-
-after-comma-requires : tie.Need-after-comma-requires
-after-comma-requires c κs = search needs
-
-slice-aggregate-after-comma-2 : tie.Need-slice-aggregate-after-comma-2
-slice-aggregate-after-comma-2 c = search needs
-
-after-comma-requires-2 : tie.Need-after-comma-requires-2
-after-comma-requires-2 c κs = search needs
-
-returns : tie.Need-returns
-unfolding letters
-returns c = (search parts depth 14, refl)
-
 pub letters-part-spec : {M : Type 1} → statement M
+unfolding letters
 letters-part-spec =
     tie.close
     (tie.spec
-    slice-aggregate-after-comma
-    after-comma-requires
-    slice-aggregate-after-comma-2
-    after-comma-requires-2
-    returns)
+    (λ c. search needs)
+    (λ c κs. search needs)
+    (λ c. search needs)
+    (λ c κs. search needs)
+    (λ c. (search parts depth 14, refl)))

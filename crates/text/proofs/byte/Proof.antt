@@ -14,12 +14,6 @@ returns : tie.Need-returns
 unfolding char
 returns c = (no-read (rw (ended _ _ (c .if1 .taken))), refl)
 
-shared-slice-read-if2 : tie.Need-shared-slice-read-if2
-shared-slice-read-if2 c = search needs
-
-add-t9 : tie.Need-add-t9
-add-t9 c = search needs
-
 returns-2 : tie.Need-returns-2
 unfolding char
 returns-2 c = (a-read (rw (here _ _ (c .before .before .if1 .left), eq-eqb _ _ (c .if2 .taken))) (omega arith) (omega arith), refl)
@@ -29,4 +23,4 @@ unfolding char
 returns-3 c = (no-read (rw (here _ _ (c .before .before .if1 .left), ne-eqb _ _ (c .if2 .left))), refl)
 
 pub byte-spec : {M : Type 1} → statement M
-byte-spec = tie.close (tie.spec returns shared-slice-read-if2 add-t9 returns-2 returns-3)
+byte-spec = tie.close (tie.spec returns (λ c. search needs) (λ c. search needs) returns-2 returns-3)

@@ -9,11 +9,8 @@ use Rattle.text.proofs.unit.Reads as unit-reads
 returns : tie.Need-returns
 returns c = rw (eq-eqb _ _ (c .if1 .taken))
 
-unit-requires : tie.Need-unit-requires
-unit-requires c κs = search needs
-
 returns-2 : tie.Need-returns-2
 returns-2 c = rw (ne-eqb _ _ (c .before .if1 .left)) (c .unit .ensures)
 
 pub lead-unit-spec : {M : Type 1} → statement M
-lead-unit-spec = tie.close (tie.spec returns unit-requires returns-2)
+lead-unit-spec = tie.close (tie.spec returns (λ c κs. search needs) returns-2)

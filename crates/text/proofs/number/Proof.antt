@@ -22,12 +22,6 @@ abbrev μ-loop : tie.MeasureT-loop
 returns : tie.Need-returns Inv-loop μ-loop
 returns c = (no-read (number-past _ _ _ (c .if1 .taken)), refl)
 
-shared-slice-read-unit : tie.Need-shared-slice-read-unit Inv-loop μ-loop
-shared-slice-read-unit c = search needs
-
-unit-requires : tie.Need-unit-requires Inv-loop μ-loop
-unit-requires c κs = search needs
-
 returns-2 : tie.Need-returns-2 Inv-loop μ-loop
 returns-2 c = (no-read (unit-absent _ _ _ (c .before .before .before .if1 .left) _ (c .before .unit .ensures) (c .if2 .taken)), refl)
 
@@ -35,15 +29,6 @@ returns-3 : tie.Need-returns-3 Inv-loop μ-loop
 returns-3 c =
     let u = c .before .before in
     (no-read (unit-first _ _ _ (u .before .before .if1 .left) _ (u .unit .ensures) (c .before .if2 .left) ∙ number-over _ _ _ (c .if3 .taken)), refl)
-
-wide-requires : tie.Need-wide-requires Inv-loop μ-loop
-wide-requires c κs = search needs
-
-wide-requires-2 : tie.Need-wide-requires-2 Inv-loop μ-loop
-wide-requires-2 c κs = search needs
-
-add-i : tie.Need-add-i Inv-loop μ-loop
-add-i c = search needs
 
 loop-holds : tie.Need-loop-holds Inv-loop μ-loop
 loop-holds c =
@@ -59,28 +44,10 @@ loop-holds c =
           ∙ sym (ap (λ v. numberFrom (a .max) v (drop (a .at + 1) (now (a .s)))) e),
     )
 
-shared-slice-read-unit-2 : tie.Need-shared-slice-read-unit-2 Inv-loop μ-loop
-shared-slice-read-unit-2 c = search needs
-
-unit-requires-2 : tie.Need-unit-requires-2 Inv-loop μ-loop
-unit-requires-2 c κs = search needs
-
-cast-t17 : tie.Need-cast-t17 Inv-loop μ-loop
-cast-t17 c = omega arith
-
 returns-4 : tie.Need-returns-4 Inv-loop μ-loop
 returns-4 c =
     let inv = c .before .before .before .before .loop .inv in
     (a-read (inv .4 ∙ unit-stop _ _ _ (c .before .before .before .loop-test .taken) _ (c .before .unit2 .ensures) _ (c .if4 .taken) (inv .2)) (inv .0) (omega arith), refl)
-
-mul-value : tie.Need-mul-value Inv-loop μ-loop
-mul-value c = omega arith
-
-wide-requires-3 : tie.Need-wide-requires-3 Inv-loop μ-loop
-wide-requires-3 c κs = search needs
-
-add-value : tie.Need-add-value Inv-loop μ-loop
-add-value c = omega arith
 
 -- a turn that reads a digit
 turn : (c : tie.After-wide3 Inv-loop μ-loop) →
@@ -96,17 +63,8 @@ turn c =
 returns-5 : tie.Need-returns-5 Inv-loop μ-loop
 returns-5 c = (no-read (turn (c .before) ∙ number-over _ _ _ (omega arith)), refl)
 
-add-i-2 : tie.Need-add-i-2 Inv-loop μ-loop
-add-i-2 c = search needs
-
-loop-less : tie.Need-loop-less Inv-loop μ-loop
-loop-less c = search needs
-
 loop-again : tie.Need-loop-again Inv-loop μ-loop
 loop-again c = (omega arith, omega arith, omega arith, omega arith, turn (c .before))
-
-cast-t20 : tie.Need-cast-t20 Inv-loop μ-loop
-cast-t20 c = omega arith
 
 returns-6 : tie.Need-returns-6 Inv-loop μ-loop
 returns-6 c =
@@ -120,24 +78,24 @@ number-spec =
     Inv-loop
     μ-loop
     returns
-    shared-slice-read-unit
-    unit-requires
+    (λ c. search needs)
+    (λ c κs. search needs)
     returns-2
     returns-3
-    wide-requires
-    wide-requires-2
-    add-i
+    (λ c κs. search needs)
+    (λ c κs. search needs)
+    (λ c. search needs)
     loop-holds
-    shared-slice-read-unit-2
-    unit-requires-2
-    cast-t17
+    (λ c. search needs)
+    (λ c κs. search needs)
+    (λ c. omega arith)
     returns-4
-    mul-value
-    wide-requires-3
-    add-value
+    (λ c. omega arith)
+    (λ c κs. search needs)
+    (λ c. omega arith)
     returns-5
-    add-i-2
-    loop-less
+    (λ c. search needs)
+    (λ c. search needs)
     loop-again
-    cast-t20
+    (λ c. omega arith)
     returns-6)

@@ -10,15 +10,6 @@ use Rattle.text.proofs.one_among.Tie as tie
 returns : tie.Need-returns
 returns c = (no-read (among-past _ _ _ (c .if1 .taken)), refl, refl)
 
-shared-slice-read-c : tie.Need-shared-slice-read-c
-shared-slice-read-c c = search needs
-
-has-requires : tie.Need-has-requires
-has-requires c κs = search needs
-
-add-t10 : tie.Need-add-t10
-add-t10 c = search needs
-
 returns-2 : tie.Need-returns-2
 returns-2 c =
     (a-read (among-got _ _ _ (c .before .before .before .if1 .left) (sym (c .before .has .ensures .0) ∙ c .if2 .taken)) (omega arith) (omega arith), refl, refl)
@@ -28,4 +19,4 @@ returns-3 c = (no-read (among-miss _ _ _ (c .before .before .before .if1 .left) 
 
 pub one-among-spec : {M : Type 1} → statement M
 one-among-spec =
-    tie.close (tie.spec returns shared-slice-read-c has-requires add-t10 returns-2 returns-3)
+    tie.close (tie.spec returns (λ c. search needs) (λ c κs. search needs) (λ c. search needs) returns-2 returns-3)

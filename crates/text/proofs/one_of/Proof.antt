@@ -12,17 +12,8 @@ use Rattle.text.proofs.one_of.Lts as lts
 returns : tie.Need-returns
 returns c = let a = c .before .args in (no-read (letter-past (a .a) (a .b) (now (a .s)) (a .at) (c .if1 .taken)), refl)
 
-shared-slice-read-c : tie.Need-shared-slice-read-c
-shared-slice-read-c c = search needs
-
-add-t10 : tie.Need-add-t10
-add-t10 c = search needs
-
 returns-2 : tie.Need-returns-2
 returns-2 c = let a = c .before .before .before .args in (a-read (letter-first (a .a) (a .b) (now (a .s)) (a .at) (c .before .before .if1 .left) (c .if2 .taken)) (omega arith) (omega arith), refl)
-
-add-t11 : tie.Need-add-t11
-add-t11 c = search needs
 
 returns-3 : tie.Need-returns-3
 returns-3 c = let a = c .before .before .before .before .args in (a-read (letter-second (a .a) (a .b) (now (a .s)) (a .at) (c .before .before .before .if1 .left) (c .before .if2 .left) (c .if3 .taken)) (omega arith) (omega arith), refl)
@@ -32,4 +23,4 @@ returns-4 c = let a = c .before .before .before .before .args in (no-read (lette
 
 pub one-of-spec : {M : Type 1} → statement M
 one-of-spec =
-    tie.close (tie.spec returns shared-slice-read-c add-t10 returns-2 add-t11 returns-3 returns-4)
+    tie.close (tie.spec returns (λ c. search needs) (λ c. search needs) returns-2 (λ c. search needs) returns-3 returns-4)

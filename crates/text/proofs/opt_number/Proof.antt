@@ -9,15 +9,6 @@ use Rattle.text.proofs.opt_number.Reads as reads
 use Rattle.text.proofs.opt_number.Lts as lts
 use Rattle.text.proofs.number.Reads as number-reads
 
-number-requires : tie.Need-number-requires
-number-requires c κs = search needs
-
-enum-known-v : tie.Need-enum-known-v
-enum-known-v c = search needs
-
-enum-told : tie.Need-enum-told
-enum-told c = search needs
-
 returns : tie.Need-returns
 returns c = (opt-some _ (c .before .before .before .number .ensures .0) (ap wholeAt (c .before .v .given .1)), refl)
 
@@ -25,4 +16,4 @@ returns-2 : tie.Need-returns-2
 returns-2 c = (opt-none _ (c .before .before .number .ensures .0) (ap wholeAt (c .enum-told .given .1)), refl)
 
 pub opt-number-spec : {M : Type 1} → statement M
-opt-number-spec = tie.close (tie.spec number-requires enum-known-v enum-told returns returns-2)
+opt-number-spec = tie.close (tie.spec (λ c κs. search needs) (λ c. search needs) (λ c. search needs) returns returns-2)

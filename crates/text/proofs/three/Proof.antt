@@ -14,62 +14,20 @@ use Rattle.text.proofs.unit.Reads as unit-reads
 returns : tie.Need-returns
 returns c = let a = c .before .before .args in (no-read (fixed-short 3 (now (a .s)) (a .at) (omega arith)), refl)
 
-sub-if2 : tie.Need-sub-if2
-sub-if2 c = search needs
-
 returns-2 : tie.Need-returns-2
 returns-2 c = let a = c .before .before .before .args in (no-read (fixed-short 3 (now (a .s)) (a .at) (omega arith)), refl)
-
-shared-slice-read-lead-unit : tie.Need-shared-slice-read-lead-unit
-shared-slice-read-lead-unit c = search needs
-
-lead-unit-requires : tie.Need-lead-unit-requires
-lead-unit-requires c κs = search needs
 
 returns-3 : tie.Need-returns-3
 returns-3 c = let a = c .before .before .before .before .before .before .args in (no-read (three-lead (now (a .s)) (a .at) (omega arith) (rw (c .before .lead-unit .ensures) at (c .if3 .taken))), refl)
 
-add-unit : tie.Need-add-unit
-add-unit c = search needs
-
-shared-slice-read-unit : tie.Need-shared-slice-read-unit
-shared-slice-read-unit c = search needs
-
-unit-requires : tie.Need-unit-requires
-unit-requires c κs = search needs
-
 returns-4 : tie.Need-returns-4
 returns-4 c = let a = c .before .before .before .before .before .before .before .before .before .args in (no-read (three-second (now (a .s)) (a .at) (omega arith) (rw (c .before .unit .ensures) at (c .if4 .taken))), refl)
-
-add-unit-2 : tie.Need-add-unit-2
-add-unit-2 c = search needs
-
-shared-slice-read-unit-2 : tie.Need-shared-slice-read-unit-2
-shared-slice-read-unit-2 c = search needs
-
-unit-requires-2 : tie.Need-unit-requires-2
-unit-requires-2 c κs = search needs
 
 returns-5 : tie.Need-returns-5
 returns-5 c = let a = c .before .before .before .before .before .before .before .before .before .before .before .before .args in (no-read (three-third (now (a .s)) (a .at) (omega arith) (rw (c .before .unit2 .ensures) at (c .if5 .taken))), refl)
 
-mul-v : tie.Need-mul-v
-mul-v c = search needs
-
-add-v : tie.Need-add-v
-add-v c = search needs
-
-mul-v-2 : tie.Need-mul-v-2
-mul-v-2 c = search needs
-
-add-v-2 : tie.Need-add-v-2
-add-v-2 c = search needs
-
 returns-6 : tie.Need-returns-6
 returns-6 c = let a = c .before .before .before .before .before .before .before .before .before .before .before .before .before .args in (no-read (three-big (now (a .s)) (a .at) (c .before .before .before .before .before .before .before .before .lead-unit .ensures) (c .before .before .before .before .before .unit .ensures) (c .before .before .unit2 .ensures) (omega arith) (c .before .before .before .before .before .before .before .if3 .left) (c .before .before .before .before .if4 .left) (c .before .if5 .left) (c .if6 .taken)), refl)
-
-add-t7 : tie.Need-add-t7
-add-t7 c = search needs
 
 returns-7 : tie.Need-returns-7
 returns-7 c = let a = c .before .before .before .before .before .before .before .before .before .before .before .before .before .args in (a-read (three-read (now (a .s)) (a .at) (c .before .before .before .before .before .before .before .before .lead-unit .ensures) (c .before .before .before .before .before .unit .ensures) (c .before .before .unit2 .ensures) (omega arith) (c .before .before .before .before .before .before .before .if3 .left) (c .before .before .before .before .if4 .left) (c .before .if5 .left) (c .if6 .left)) (omega arith) (omega arith), refl)
@@ -79,23 +37,23 @@ three-spec =
     tie.close
     (tie.spec
     returns
-    sub-if2
+    (λ c. search needs)
     returns-2
-    shared-slice-read-lead-unit
-    lead-unit-requires
+    (λ c. search needs)
+    (λ c κs. search needs)
     returns-3
-    add-unit
-    shared-slice-read-unit
-    unit-requires
+    (λ c. search needs)
+    (λ c. search needs)
+    (λ c κs. search needs)
     returns-4
-    add-unit-2
-    shared-slice-read-unit-2
-    unit-requires-2
+    (λ c. search needs)
+    (λ c. search needs)
+    (λ c κs. search needs)
     returns-5
-    mul-v
-    add-v
-    mul-v-2
-    add-v-2
+    (λ c. search needs)
+    (λ c. search needs)
+    (λ c. search needs)
+    (λ c. search needs)
     returns-6
-    add-t7
+    (λ c. search needs)
     returns-7)

@@ -13,57 +13,6 @@ use Rattle.utf8.proofs.step.Tie as tie
 arm : {u v : Utf8} (b : ℕ) {x : State} → u ≡ v → x ≡ step (pending v) b → x ≡ step (pending u) b
 arm b e h = h ∙ ap (λ (w : Utf8). step (pending w) b) (sym e)
 
-enum-told : tie.Need-enum-told
-enum-told c = search needs
-
-lead-requires : tie.Need-lead-requires
-lead-requires c κs = search needs
-
-enum-told-2 : tie.Need-enum-told-2
-enum-told-2 c = search needs
-
-enum-told-3 : tie.Need-enum-told-3
-enum-told-3 c = search needs
-
-within-requires : tie.Need-within-requires
-within-requires c κs = search needs
-
-enum-told-4 : tie.Need-enum-told-4
-enum-told-4 c = search needs
-
-within-requires-2 : tie.Need-within-requires-2
-within-requires-2 c κs = search needs
-
-enum-told-5 : tie.Need-enum-told-5
-enum-told-5 c = search needs
-
-within-requires-3 : tie.Need-within-requires-3
-within-requires-3 c κs = search needs
-
-enum-told-6 : tie.Need-enum-told-6
-enum-told-6 c = search needs
-
-within-requires-4 : tie.Need-within-requires-4
-within-requires-4 c κs = search needs
-
-enum-told-7 : tie.Need-enum-told-7
-enum-told-7 c = search needs
-
-within-requires-5 : tie.Need-within-requires-5
-within-requires-5 c κs = search needs
-
-enum-told-8 : tie.Need-enum-told-8
-enum-told-8 c = search needs
-
-within-requires-6 : tie.Need-within-requires-6
-within-requires-6 c κs = search needs
-
-enum-told-9 : tie.Need-enum-told-9
-enum-told-9 c = search needs
-
-within-requires-7 : tie.Need-within-requires-7
-within-requires-7 c κs = search needs
-
 returns : tie.Need-returns
 unfolding step
 returns c = arm _ (c .before .enum-told .given .1) (c .lead .ensures)
@@ -104,23 +53,23 @@ pub step-spec : {M : Type 1} → statement M
 step-spec =
     tie.close
     (tie.spec
-    enum-told
-    lead-requires
-    enum-told-2
-    enum-told-3
-    within-requires
-    enum-told-4
-    within-requires-2
-    enum-told-5
-    within-requires-3
-    enum-told-6
-    within-requires-4
-    enum-told-7
-    within-requires-5
-    enum-told-8
-    within-requires-6
-    enum-told-9
-    within-requires-7
+    (λ c. search needs)
+    (λ c κs. search needs)
+    (λ c. search needs)
+    (λ c. search needs)
+    (λ c κs. search needs)
+    (λ c. search needs)
+    (λ c κs. search needs)
+    (λ c. search needs)
+    (λ c κs. search needs)
+    (λ c. search needs)
+    (λ c κs. search needs)
+    (λ c. search needs)
+    (λ c κs. search needs)
+    (λ c. search needs)
+    (λ c κs. search needs)
+    (λ c. search needs)
+    (λ c κs. search needs)
     returns
     returns-2
     returns-3

@@ -30,14 +30,8 @@ other AfterED k = refl
 other AfterF0 k = refl
 other AfterF4 k = refl
 
-enum-told : tie.Need-enum-told
-enum-told c = search needs
-
-returns : tie.Need-returns
-returns c = search needs
-
 returns-2 : tie.Need-returns-2
 returns-2 c = other (c .before .args .state) (c .match .keys2)
 
 pub whole-spec : {M : Type 1} → statement M
-whole-spec = tie.close (tie.spec enum-told returns returns-2)
+whole-spec = tie.close (tie.spec (λ c. search needs) (λ c. search needs) returns-2)

@@ -22,20 +22,11 @@ returns c = not-cleared (now (c .before .args .table)) (c .if1 .taken)
 loop-holds : tie.Need-loop-holds Inv-loop μ-loop
 loop-holds c = (omega arith, refl)
 
-mul-table : tie.Need-mul-table Inv-loop μ-loop
-mul-table c = omega arith
-
 slice-write-table : tie.Need-slice-write-table Inv-loop μ-loop
 slice-write-table c =
     let t = now (c .before .before .before .args .table) in
     let w = c .before .loop in
     omega (arith, c .before .before .if1 .left, ap length (w .inv .1), cleared-long t (w .i) (omega (arith, w .inv .0)))
-
-add-i : tie.Need-add-i Inv-loop μ-loop
-add-i c = omega arith
-
-loop-less : tie.Need-loop-less Inv-loop μ-loop
-loop-less c = omega arith
 
 loop-again : tie.Need-loop-again Inv-loop μ-loop
 loop-again c =
@@ -53,7 +44,7 @@ returns-2 : tie.Need-returns-2 Inv-loop μ-loop
 returns-2 c =
     let t = now (c .before .before .before .args .table) in
     let w = c .before .loop in
-    subst (λ (l : List ℕ). Freshened t l 1) (sym (w .inv .1)) (all-cleared t (w .i) (c .before .before .if1 .left) (omega arith))
+    subst (λ (l : List ℕ). Freshened t l 0) (sym (w .inv .1)) (all-cleared t (w .i) (c .before .before .if1 .left) (omega arith))
 
 pub nmea-fresh-spec : {M : Type 1} → statement M
 nmea-fresh-spec =
@@ -63,10 +54,10 @@ nmea-fresh-spec =
     μ-loop
     returns
     loop-holds
-    mul-table
+    (λ c. omega arith)
     slice-write-table
-    add-i
-    loop-less
+    (λ c. omega arith)
+    (λ c. omega arith)
     loop-again
     same-length
     returns-2)

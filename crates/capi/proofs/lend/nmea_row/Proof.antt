@@ -18,30 +18,6 @@ returns-2 c = let a = c .before .before .before .before .args in (no-row-table (
 returns-3 : tie.Need-returns-3
 returns-3 c = let a = c .before .before .before .before .before .args in (no-such-row (now (a .table)) (a .row) (now (a .out)) (c .before .before .if1 .left) (c .before .if2 .left) (c .if3 .taken), refl)
 
-mul-at : tie.Need-mul-at
-mul-at c = search needs
-
-add-end : tie.Need-add-end
-add-end c = search needs
-
-mul-read-row : tie.Need-mul-read-row
-mul-read-row c = search needs
-
-sub-read-row : tie.Need-sub-read-row
-sub-read-row c = search needs
-
-part-read-row-start : tie.Need-part-read-row-start
-part-read-row-start c = search needs
-
-part-read-row-end : tie.Need-part-read-row-end
-part-read-row-end c = search needs
-
-read-row-requires : tie.Need-read-row-requires
-read-row-requires c κs = search needs
-
-same-length : tie.Need-same-length
-same-length c = search needs
-
 returns-4 : tie.Need-returns-4
 returns-4 c =
     let a = c .before .before .before .before .before .before .before .before .before .before .args in
@@ -55,12 +31,12 @@ nmea-row-spec =
     returns
     returns-2
     returns-3
-    mul-at
-    add-end
-    mul-read-row
-    sub-read-row
-    part-read-row-start
-    part-read-row-end
-    read-row-requires
-    same-length
+    (λ c. search needs)
+    (λ c. search needs)
+    (λ c. search needs)
+    (λ c. search needs)
+    (λ c. search needs)
+    (λ c. search needs)
+    (λ c κs. search needs)
+    (λ c. search needs)
     returns-4)

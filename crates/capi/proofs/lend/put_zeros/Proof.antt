@@ -5,7 +5,7 @@ use mathlib.Core.Path.{_≡_, refl, ap, _∙_}
 use lib.ListN.{length, length-set}
 use lib.Seq.{sets}
 use denote.Ref.{now}
-use Rattle.capi.specs.Layout.{zeros}
+use Rattle.words.specs.Part.{zeros}
 use Rattle.capi.proofs.Lending.{one-zero}
 use Rattle.capi.proofs.lend.put_zeros.Statement.{statement}
 use Rattle.capi.proofs.lend.put_zeros.Tie as tie
@@ -22,14 +22,8 @@ loop-holds c =
     let z : _≡_ {A = ℕ} 0 (a .from - a .from) = omega arith in
     (omega arith, omega (arith, c .pre .0), ap (λ (k : ℕ). sets (now (a .out)) (a .from) (zeros k)) z, refl)
 
-mul-out : tie.Need-mul-out Inv-loop μ-loop
-mul-out c = omega arith
-
 slice-write-out : tie.Need-slice-write-out Inv-loop μ-loop
 slice-write-out c = omega (arith, c .loop-test .taken, c .before .loop .inv .3, c .before .before .pre .1)
-
-add-j : tie.Need-add-j Inv-loop μ-loop
-add-j c = omega arith
 
 loop-less : tie.Need-loop-less Inv-loop μ-loop
 loop-less c = omega (arith, c .loop-test .taken)
@@ -61,9 +55,9 @@ put-zeros-spec =
     Inv-loop
     μ-loop
     loop-holds
-    mul-out
+    (λ c. omega arith)
     slice-write-out
-    add-j
+    (λ c. omega arith)
     loop-less
     loop-again
     same-length

@@ -10,21 +10,6 @@ use Rattle.capi.proofs.totals.nmea_walk.Tie as tie
 returns : tie.Need-returns
 returns c = (record { written = λ h. clash (c .if1 .taken) h; short = λ h. (refl, refl) }, refl)
 
-totals-requires : tie.Need-totals-requires
-totals-requires c κs = search needs
-
-enum-known-why : tie.Need-enum-known-why
-enum-known-why c = search needs
-
-number-requires : tie.Need-number-requires
-number-requires c κs = search needs
-
-enum-known-c : tie.Need-enum-known-c
-enum-known-c c = search needs
-
-put-totals-requires : tie.Need-put-totals-requires
-put-totals-requires c κs = search needs
-
 returns-2 : tie.Need-returns-2
 returns-2 c =
     let t = c .before .before .before .before in
@@ -35,9 +20,6 @@ returns-2 c =
       },
       refl,
     )
-
-same-length : tie.Need-same-length
-same-length c = search needs
 
 returns-3 : tie.Need-returns-3
 returns-3 c =
@@ -55,11 +37,11 @@ nmea-walk-spec =
     tie.close
     (tie.spec
     returns
-    totals-requires
-    enum-known-why
-    number-requires
-    enum-known-c
-    put-totals-requires
+    (λ c κs. search needs)
+    (λ c. search needs)
+    (λ c κs. search needs)
+    (λ c. search needs)
+    (λ c κs. search needs)
     returns-2
-    same-length
+    (λ c. search needs)
     returns-3)

@@ -7,9 +7,6 @@ use borrow.Author.Needs.{needs}
 use Rattle.capi.proofs.totals.put_totals.Statement.{statement}
 use Rattle.capi.proofs.totals.put_totals.Tie as tie
 
-slice-write-out : tie.Need-slice-write-out
-slice-write-out c = search needs
-
 slice-write-out-2 : tie.Need-slice-write-out-2
 slice-write-out-2 c = simp length-set (omega arith)
 
@@ -19,12 +16,6 @@ slice-write-out-3 c = simp length-set (omega arith)
 slice-write-out-4 : tie.Need-slice-write-out-4
 slice-write-out-4 c = simp length-set (omega arith)
 
-slice-write-out-5 : tie.Need-slice-write-out-5
-slice-write-out-5 c = search needs
-
-same-length : tie.Need-same-length
-same-length c = search needs
-
 returns : tie.Need-returns
 returns c = five-stored (now (c .args .out)) _ _ _ _ _ (c .pre)
 
@@ -32,10 +23,10 @@ pub put-totals-spec : {M : Type 1} → statement M
 put-totals-spec =
     tie.close
     (tie.spec
-    slice-write-out
+    (λ c. search needs)
     slice-write-out-2
     slice-write-out-3
     slice-write-out-4
-    slice-write-out-5
-    same-length
+    (λ c. search needs)
+    (λ c. search needs)
     returns)

@@ -5,17 +5,11 @@ use borrow.Author.Needs.{needs}
 use Rattle.fields.proofs.date.days_in.Statement.{statement}
 use Rattle.fields.proofs.date.days_in.Tie as tie
 
-is-leap-requires : tie.Need-is-leap-requires
-is-leap-requires c κs = search needs
-
 returns : tie.Need-returns
 returns c = let a = c .before .before .before .args in feb-leap (a .year) (a .month) (c .before .before .if1 .taken) (sym (c .before .is-leap .ensures) ∙ c .if2 .taken)
 
 returns-2 : tie.Need-returns-2
 returns-2 c = let a = c .before .before .before .args in feb (a .year) (a .month) (c .before .before .if1 .taken) (sym (c .before .is-leap .ensures) ∙ c .if2 .left)
-
-has-thirty-requires : tie.Need-has-thirty-requires
-has-thirty-requires c κs = search needs
 
 returns-3 : tie.Need-returns-3
 returns-3 c = let a = c .before .before .before .args in short-month (a .year) (a .month) (c .before .before .if1 .left) (sym (c .before .has-thirty .ensures) ∙ c .if3 .taken)
@@ -25,4 +19,4 @@ returns-4 c = let a = c .before .before .before .args in long-month (a .year) (a
 
 pub days-in-spec : {M : Type 1} → statement M
 days-in-spec =
-    tie.close (tie.spec is-leap-requires returns returns-2 has-thirty-requires returns-3 returns-4)
+    tie.close (tie.spec (λ c κs. search needs) returns returns-2 (λ c κs. search needs) returns-3 returns-4)

@@ -13,9 +13,6 @@ returns-2 c = let a = c .before .before .args in late-month (a .day) (a .month) 
 returns-3 : tie.Need-returns-3
 returns-3 c = let a = c .before .before .before .args in no-day-zero (a .day) (a .month) (a .year) (c .if3 .taken)
 
-days-in-requires : tie.Need-days-in-requires
-days-in-requires c κs = search needs
-
 returns-4 : tie.Need-returns-4
 returns-4 c = let a = c .before .before .before .before .before .args in late-day (a .day) (a .month) (a .year) (rw (c .before .days-in .ensures) at (c .if4 .taken))
 
@@ -24,4 +21,4 @@ returns-5 c = let a = c .before .before .before .before .before .args in good-da
 
 pub on-calendar-spec : {M : Type 1} → statement M
 on-calendar-spec =
-    tie.close (tie.spec returns returns-2 returns-3 days-in-requires returns-4 returns-5)
+    tie.close (tie.spec returns returns-2 returns-3 (λ c κs. search needs) returns-4 returns-5)

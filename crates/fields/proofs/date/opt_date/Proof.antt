@@ -6,15 +6,6 @@ use borrow.Author.Needs.{needs}
 use Rattle.fields.proofs.date.opt_date.Statement.{statement}
 use Rattle.fields.proofs.date.opt_date.Tie as tie
 
-parse-date-requires : tie.Need-parse-date-requires
-parse-date-requires c κs = search needs
-
-enum-told : tie.Need-enum-told
-enum-told c = search needs
-
-enum-known-d : tie.Need-enum-known-d
-enum-known-d c = search needs
-
 returns : tie.Need-returns
 returns c = (opt-none _ (c .before .before .parse-date .ensures .0) (ap dateRead (c .enum-told .given .1)), refl)
 
@@ -22,4 +13,4 @@ returns-2 : tie.Need-returns-2
 returns-2 c = (opt-some _ (c .before .before .before .parse-date .ensures .0) (ap dateRead (c .before .d .given .1)), refl)
 
 pub opt-date-spec : {M : Type 1} → statement M
-opt-date-spec = tie.close (tie.spec parse-date-requires enum-told enum-known-d returns returns-2)
+opt-date-spec = tie.close (tie.spec (λ c κs. search needs) (λ c. search needs) (λ c. search needs) returns returns-2)

@@ -4,9 +4,6 @@ use borrow.Author.Needs.{needs}
 use Rattle.fields.proofs.position.degrees_of.Statement.{statement}
 use Rattle.fields.proofs.position.degrees_of.Tie as tie
 
-int-to-float-d : tie.Need-int-to-float-d
-int-to-float-d c = search needs
-
 returns : tie.Need-returns
 unfolding ofBits ofInt
 returns c = rw (c .if1 .taken)
@@ -16,4 +13,4 @@ unfolding ofBits ofInt
 returns-2 c = rw (c .if1 .left)
 
 pub degrees-of-spec : {M : Type 1} → statement M
-degrees-of-spec = tie.close (tie.spec int-to-float-d returns returns-2)
+degrees-of-spec = tie.close (tie.spec (λ c. search needs) returns returns-2)

@@ -7,27 +7,6 @@ use borrow.Author.Needs.{needs}
 use Rattle.fields.proofs.position.parse_lat_lon.Statement.{statement}
 use Rattle.fields.proofs.position.parse_lat_lon.Tie as tie
 
-commas-requires : tie.Need-commas-requires
-commas-requires c κs = search needs
-
-enum-known-p : tie.Need-enum-known-p
-enum-known-p c = search needs
-
-enum-told : tie.Need-enum-told
-enum-told c = search needs
-
-do-parse-lat-lon-requires : tie.Need-do-parse-lat-lon-requires
-do-parse-lat-lon-requires c κs = search needs
-
-enum-told-2 : tie.Need-enum-told-2
-enum-told-2 c = search needs
-
-enum-known-b : tie.Need-enum-known-b
-enum-known-b c = search needs
-
-enum-told-3 : tie.Need-enum-told-3
-enum-told-3 c = search needs
-
 returns : tie.Need-returns
 unfolding latLon
 returns c = (alt-first _ (search steps depth 14), refl)
@@ -48,13 +27,13 @@ pub parse-lat-lon-spec : {M : Type 1} → statement M
 parse-lat-lon-spec =
     tie.close
     (tie.spec
-    commas-requires
-    enum-known-p
-    enum-told
-    do-parse-lat-lon-requires
-    enum-told-2
-    enum-known-b
-    enum-told-3
+    (λ c κs. search needs)
+    (λ c. search needs)
+    (λ c. search needs)
+    (λ c κs. search needs)
+    (λ c. search needs)
+    (λ c. search needs)
+    (λ c. search needs)
     returns
     returns-2
     returns-3

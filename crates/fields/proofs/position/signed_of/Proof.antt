@@ -6,9 +6,6 @@ use borrow.Author.Needs.{needs}
 use Rattle.fields.proofs.position.signed_of.Statement.{statement}
 use Rattle.fields.proofs.position.signed_of.Tie as tie
 
-cast-m : tie.Need-cast-m
-cast-m c = search needs
-
 sub-result : tie.Need-sub-result
 sub-result c = rw (size64 (c .before .args .n) (omega arith)) (fits64 (pos (c .before .args .n)) (omega arith))
 
@@ -19,4 +16,4 @@ returns-2 : tie.Need-returns-2
 returns-2 c = rw (c .if1 .left) (size64 (c .before .args .n) (omega arith))
 
 pub signed-of-spec : {M : Type 1} → statement M
-signed-of-spec = tie.close (tie.spec cast-m sub-result returns returns-2)
+signed-of-spec = tie.close (tie.spec (λ c. search needs) sub-result returns returns-2)

@@ -32,12 +32,6 @@ returns-4 c =
       refl,
     )
 
-cast-t10 : tie.Need-cast-t10
-cast-t10 c = search needs
-
-cast-t11 : tie.Need-cast-t11
-cast-t11 c = search needs
-
 returns-5 : tie.Need-returns-5
 returns-5 c =
     let s = c .before .before .before .before in
@@ -57,6 +51,6 @@ on-clock-spec =
     returns-2
     returns-3
     returns-4
-    cast-t10
-    cast-t11
+    (λ c. search needs)
+    (λ c. search needs)
     returns-5)

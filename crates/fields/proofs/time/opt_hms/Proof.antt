@@ -6,21 +6,6 @@ use borrow.Author.Needs.{needs}
 use Rattle.fields.proofs.time.opt_hms.Statement.{statement}
 use Rattle.fields.proofs.time.opt_hms.Tie as tie
 
-parse-hms-requires : tie.Need-parse-hms-requires
-parse-hms-requires c κs = search needs
-
-enum-told : tie.Need-enum-told
-enum-told c = search needs
-
-enum-known-t : tie.Need-enum-known-t
-enum-known-t c = search needs
-
-enum-told-2 : tie.Need-enum-told-2
-enum-told-2 c = search needs
-
-enum-told-3 : tie.Need-enum-told-3
-enum-told-3 c = search needs
-
 returns : tie.Need-returns
 returns c = (opt-none _ (c .before .before .parse-hms .ensures .0) (ap timeRead (c .enum-told .given .1)), refl)
 
@@ -37,11 +22,11 @@ pub opt-hms-spec : {M : Type 1} → statement M
 opt-hms-spec =
     tie.close
     (tie.spec
-    parse-hms-requires
-    enum-told
-    enum-known-t
-    enum-told-2
-    enum-told-3
+    (λ c κs. search needs)
+    (λ c. search needs)
+    (λ c. search needs)
+    (λ c. search needs)
+    (λ c. search needs)
     returns
     returns-2
     returns-3

@@ -7,27 +7,6 @@ use borrow.Author.Needs.{needs}
 use Rattle.fields.proofs.variation.parse_magnetic_variation.Statement.{statement}
 use Rattle.fields.proofs.variation.parse_magnetic_variation.Tie as tie
 
-byte-requires : tie.Need-byte-requires
-byte-requires c κs = search needs
-
-enum-known-p : tie.Need-enum-known-p
-enum-known-p c = search needs
-
-enum-told : tie.Need-enum-told
-enum-told c = search needs
-
-do-parse-magnetic-variation-requires : tie.Need-do-parse-magnetic-variation-requires
-do-parse-magnetic-variation-requires c κs = search needs
-
-enum-told-2 : tie.Need-enum-told-2
-enum-told-2 c = search needs
-
-enum-known-v : tie.Need-enum-known-v
-enum-known-v c = search needs
-
-enum-told-3 : tie.Need-enum-told-3
-enum-told-3 c = search needs
-
 returns : tie.Need-returns
 unfolding variation
 returns c = (alt-first _ (search steps depth 14), refl)
@@ -48,13 +27,13 @@ pub parse-magnetic-variation-spec : {M : Type 1} → statement M
 parse-magnetic-variation-spec =
     tie.close
     (tie.spec
-    byte-requires
-    enum-known-p
-    enum-told
-    do-parse-magnetic-variation-requires
-    enum-told-2
-    enum-known-v
-    enum-told-3
+    (λ c κs. search needs)
+    (λ c. search needs)
+    (λ c. search needs)
+    (λ c κs. search needs)
+    (λ c. search needs)
+    (λ c. search needs)
+    (λ c. search needs)
     returns
     returns-2
     returns-3

@@ -7,9 +7,6 @@ use Rattle.frame.proofs.Judged.{sums-equal, sums-differ}
 use Rattle.frame.proofs.parse.compared.Statement.{statement}
 use Rattle.frame.proofs.parse.compared.Tie as tie
 
-checksum-requires : tie.Need-checksum-requires
-checksum-requires c κs = search needs
-
 returns : tie.Need-returns
 returns c = let a = c .before .before .before .args in (sums-equal (parts (now (a .s)) (a .x)) (c .before .checksum .ensures .0) (c .if1 .taken), refl)
 
@@ -17,4 +14,4 @@ returns-2 : tie.Need-returns-2
 returns-2 c = let a = c .before .before .before .args in (sums-differ (parts (now (a .s)) (a .x)) (c .before .checksum .ensures .0) (c .if1 .left), refl)
 
 pub compared-spec : {M : Type 1} → statement M
-compared-spec = tie.close (tie.spec checksum-requires returns returns-2)
+compared-spec = tie.close (tie.spec (λ c κs. search needs) returns returns-2)

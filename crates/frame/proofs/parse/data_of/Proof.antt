@@ -13,31 +13,10 @@ use borrow.Author.Needs.{needs}
 use Rattle.frame.proofs.parse.data_of.Statement.{statement}
 use Rattle.frame.proofs.parse.data_of.Tie as tie
 
-parse-nmea-sentence-requires : tie.Need-parse-nmea-sentence-requires
-parse-nmea-sentence-requires c κs = search needs
-
-enum-known-x : tie.Need-enum-known-x
-enum-known-x c = search needs
-
-enum-told : tie.Need-enum-told
-enum-told c = search needs
-
-sub-result : tie.Need-sub-result
-sub-result c = search needs
-
-part-result-start : tie.Need-part-result-start
-part-result-start c = search needs
-
-part-result-end : tie.Need-part-result-end
-part-result-end c = search needs
-
 returns : tie.Need-returns
 returns c =
     let l = now (c .before .before .before .before .before .args .line) in
     (sym (ap dataIn (sym (c .before .before .before .parse-nmea-sentence .ensures .0) ∙ ap (framed l) (c .before .enum-told .given .1))), refl)
-
-data-requires : tie.Need-data-requires
-data-requires c κs = search needs
 
 returns-2 : tie.Need-returns-2
 returns-2 c =
@@ -52,12 +31,12 @@ pub data-of-spec : {M : Type 1} → statement M
 data-of-spec =
     tie.close
     (tie.spec
-    parse-nmea-sentence-requires
-    enum-known-x
-    enum-told
-    sub-result
-    part-result-start
-    part-result-end
+    (λ c κs. search needs)
+    (λ c. search needs)
+    (λ c. search needs)
+    (λ c. search needs)
+    (λ c. search needs)
+    (λ c. search needs)
     returns
-    data-requires
+    (λ c κs. search needs)
     returns-2)

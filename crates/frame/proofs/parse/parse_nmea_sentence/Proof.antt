@@ -6,17 +6,8 @@ use borrow.Author.Needs.{needs}
 use Rattle.frame.proofs.parse.parse_nmea_sentence.Statement.{statement}
 use Rattle.frame.proofs.parse.parse_nmea_sentence.Tie as tie
 
-is-ascii-requires : tie.Need-is-ascii-requires
-is-ascii-requires c κs = search needs
-
-sized-requires : tie.Need-sized-requires
-sized-requires c κs = search needs
-
 returns : tie.Need-returns
 returns c = (c .sized .ensures .0 ∙ sym (frame-ascii (now (c .before .before .before .before .args .s)) (sym (c .before .before .is-ascii .ensures .0) ∙ c .before .if1 .taken)), refl)
-
-is-utf8-requires : tie.Need-is-utf8-requires
-is-utf8-requires c κs = search needs
 
 returns-2 : tie.Need-returns-2
 returns-2 c =
@@ -29,4 +20,4 @@ returns-3 c = (sym (frame-bad (now (c .before .before .before .before .before .a
 pub parse-nmea-sentence-spec : {M : Type 1} → statement M
 parse-nmea-sentence-spec =
     tie.close
-    (tie.spec is-ascii-requires sized-requires returns is-utf8-requires returns-2 returns-3)
+    (tie.spec (λ c κs. search needs) (λ c κs. search needs) returns (λ c κs. search needs) returns-2 returns-3)

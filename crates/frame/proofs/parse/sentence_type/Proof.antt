@@ -13,31 +13,10 @@ returns c =
     let a = c .before .before .args in
     (no-read (short-type (now (a .s)) (a .at) (omega arith)), refl)
 
-sub-if2 : tie.Need-sub-if2
-sub-if2 c = search needs
-
 returns-2 : tie.Need-returns-2
 returns-2 c =
     let a = c .before .before .before .args in
     (no-read (short-type (now (a .s)) (a .at) (omega arith)), refl)
-
-shared-slice-read-t8 : tie.Need-shared-slice-read-t8
-shared-slice-read-t8 c = search needs
-
-add-t4 : tie.Need-add-t4
-add-t4 c = search needs
-
-shared-slice-read-t10 : tie.Need-shared-slice-read-t10
-shared-slice-read-t10 c = search needs
-
-add-t6 : tie.Need-add-t6
-add-t6 c = search needs
-
-shared-slice-read-t12 : tie.Need-shared-slice-read-t12
-shared-slice-read-t12 c = search needs
-
-known-requires : tie.Need-known-requires
-known-requires c κs = search needs
 
 returns-3 : tie.Need-returns-3
 returns-3 c =
@@ -54,13 +33,13 @@ sentence-type-spec =
     tie.close
     (tie.spec
     returns
-    sub-if2
+    (λ c. search needs)
     returns-2
-    shared-slice-read-t8
-    add-t4
-    shared-slice-read-t10
-    add-t6
-    shared-slice-read-t12
-    known-requires
+    (λ c. search needs)
+    (λ c. search needs)
+    (λ c. search needs)
+    (λ c. search needs)
+    (λ c. search needs)
+    (λ c κs. search needs)
     returns-3
     returns-4)

@@ -11,21 +11,6 @@ use Rattle.frame.proofs.parse.sized.Tie as tie
 returns : tie.Need-returns
 returns c = (sym (sized-long (now (c .before .before .args .s)) (c .if1 .taken)), refl)
 
-sentence-requires : tie.Need-sentence-requires
-sentence-requires c κs = search needs
-
-enum-told : tie.Need-enum-told
-enum-told c = search needs
-
-enum-told-2 : tie.Need-enum-told-2
-enum-told-2 c = search needs
-
-enum-known-x : tie.Need-enum-known-x
-enum-known-x c = search needs
-
-compared-requires : tie.Need-compared-requires
-compared-requires c κs = search needs
-
 returns-2 : tie.Need-returns-2
 returns-2 c =
     let s = now (c .before .before .before .before .before .args .s) in
@@ -52,11 +37,11 @@ sized-spec =
     tie.close
     (tie.spec
     returns
-    sentence-requires
-    enum-told
-    enum-told-2
-    enum-known-x
-    compared-requires
+    (λ c κs. search needs)
+    (λ c. search needs)
+    (λ c. search needs)
+    (λ c. search needs)
+    (λ c κs. search needs)
     returns-2
     returns-3
     returns-4)

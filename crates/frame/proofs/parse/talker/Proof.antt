@@ -12,20 +12,8 @@ use Rattle.frame.proofs.parse.talker.Tie as tie
 returns : tie.Need-returns
 returns c = let a = c .before .args in (no-read (taken-short (now (a .s)) (a .at) 2 (omega arith)), refl)
 
-sub-if2 : tie.Need-sub-if2
-sub-if2 c = search needs
-
 returns-2 : tie.Need-returns-2
 returns-2 c = let a = c .before .before .args in (no-read (taken-short (now (a .s)) (a .at) 2 (omega arith)), refl)
-
-shared-slice-read-t7 : tie.Need-shared-slice-read-t7
-shared-slice-read-t7 c = search needs
-
-add-t3 : tie.Need-add-t3
-add-t3 c = search needs
-
-shared-slice-read-t9 : tie.Need-shared-slice-read-t9
-shared-slice-read-t9 c = search needs
 
 returns-3 : tie.Need-returns-3
 returns-3 c = let a = c .before .before .before .before .args in (a-read (ap (taken 2) (next-two (now (a .s)) (a .at) (omega arith)) ∙ two-of _ _ _) (omega arith) (omega arith), refl)
@@ -33,4 +21,4 @@ returns-3 c = let a = c .before .before .before .before .args in (a-read (ap (ta
 pub talker-spec : {M : Type 1} → statement M
 talker-spec =
     tie.close
-    (tie.spec returns sub-if2 returns-2 shared-slice-read-t7 add-t3 shared-slice-read-t9 returns-3)
+    (tie.spec returns (λ c. search needs) returns-2 (λ c. search needs) (λ c. search needs) (λ c. search needs) returns-3)

@@ -32,20 +32,11 @@ known-rmc : listed types (bytes "RMC") ≡ true
 unfolding types listed alike
 known-rmc = refl
 
-same-requires : tie.Need-same-requires Inv-loop μ-loop
-same-requires c κs = search needs
-
 returns : tie.Need-returns Inv-loop μ-loop
 returns c = sym (as-one types _ (bytes "GSV") known-gsv (sym (c .before .same .ensures) ∙ c .if1 .taken))
 
-same-requires-2 : tie.Need-same-requires-2 Inv-loop μ-loop
-same-requires-2 c κs = search needs
-
 returns-2 : tie.Need-returns-2 Inv-loop μ-loop
 returns-2 c = sym (as-one types _ (bytes "GSA") known-gsa (sym (c .before .same2 .ensures) ∙ c .if2 .taken))
-
-same-requires-3 : tie.Need-same-requires-3 Inv-loop μ-loop
-same-requires-3 c κs = search needs
 
 returns-3 : tie.Need-returns-3 Inv-loop μ-loop
 returns-3 c = sym (as-one types _ (bytes "RMC") known-rmc (sym (c .before .same3 .ensures) ∙ c .if3 .taken))
@@ -54,26 +45,11 @@ loop-holds : tie.Need-loop-holds Inv-loop μ-loop
 unfolding types
 loop-holds c = (omega arith, refl, refl)
 
-mul-t : tie.Need-mul-t Inv-loop μ-loop
-mul-t c = search needs
-
-array-copy-out-t : tie.Need-array-copy-out-t Inv-loop μ-loop
-array-copy-out-t c = search needs
-
-same-requires-4 : tie.Need-same-requires-4 Inv-loop μ-loop
-same-requires-4 c κs = search needs
-
 returns-4 : tie.Need-returns-4 Inv-loop μ-loop
 unfolding types
 returns-4 c =
     let k = c .before .before .before in
     sym (k .before .loop .inv .2 ∙ found types _ _ _ (k .loop-test .taken) (sym (c .before .same4 .ensures) ∙ c .if4 .taken))
-
-add-i : tie.Need-add-i Inv-loop μ-loop
-add-i c = search needs
-
-loop-less : tie.Need-loop-less Inv-loop μ-loop
-loop-less c = search needs
 
 loop-again : tie.Need-loop-again Inv-loop μ-loop
 unfolding types
@@ -91,18 +67,18 @@ known-spec =
     (tie.spec
     Inv-loop
     μ-loop
-    same-requires
+    (λ c κs. search needs)
     returns
-    same-requires-2
+    (λ c κs. search needs)
     returns-2
-    same-requires-3
+    (λ c κs. search needs)
     returns-3
     loop-holds
-    mul-t
-    array-copy-out-t
-    same-requires-4
+    (λ c. search needs)
+    (λ c. search needs)
+    (λ c κs. search needs)
     returns-4
-    add-i
-    loop-less
+    (λ c. search needs)
+    (λ c. search needs)
     loop-again
     returns-5)

@@ -5,20 +5,11 @@ use borrow.Author.Needs.{needs}
 use Rattle.frame.proofs.sentence.same.Statement.{statement}
 use Rattle.frame.proofs.sentence.same.Tie as tie
 
-array-read-if1 : tie.Need-array-read-if1
-array-read-if1 c = search needs
-
 returns : tie.Need-returns
 returns c = let a = c .before .before .args in sym (differ-first (a .kind .0) (a .kind .1) (a .kind .2) (a .t2) (search needs) (c .if1 .taken))
 
-array-read-if2 : tie.Need-array-read-if2
-array-read-if2 c = search needs
-
 returns-2 : tie.Need-returns-2
 returns-2 c = let a = c .before .before .before .before .args in sym (differ-second (a .kind .0) (a .kind .1) (a .kind .2) (a .t2) (search needs) (c .before .before .if1 .left) (c .if2 .taken))
-
-array-read-result : tie.Need-array-read-result
-array-read-result c = search needs
 
 returns-3 : tie.Need-returns-3
 returns-3 c = let a = c .before .before .before .before .before .args in sym (as-third (a .kind .0) (a .kind .1) (a .kind .2) (a .t2) (search needs) (c .before .before .before .if1 .left) (c .before .if2 .left))
@@ -26,4 +17,4 @@ returns-3 c = let a = c .before .before .before .before .before .args in sym (as
 pub same-spec : {M : Type 1} → statement M
 same-spec =
     tie.close
-    (tie.spec array-read-if1 returns array-read-if2 returns-2 array-read-result returns-3)
+    (tie.spec (λ c. search needs) returns (λ c. search needs) returns-2 (λ c. search needs) returns-3)

@@ -5,7 +5,7 @@ use mathlib.Core.Path.{_≡_, refl, sym, _∙_}
 use borrow.Author.Needs.{needs}
 use denote.Ref.{now}
 use lib.Seq.{slice}
-use Rattle.frame.specs.Star.{marked}
+use Rattle.frame.specs.Code.{marked}
 use Rattle.frame.proofs.Stars.{one-marked, all-marked}
 use Rattle.frame.proofs.star.marked.Statement.{statement}
 use Rattle.frame.proofs.star.marked.Tie as tie
@@ -15,21 +15,6 @@ Inv-loop s from to flag₀ i₀ flag i = marked 0 (slice from to s) ≡ marked f
 
 abbrev μ-loop : tie.MeasureT-loop
 μ-loop s from to flag₀ i₀ flag i = to - i
-
-loop-holds : tie.Need-loop-holds Inv-loop μ-loop
-loop-holds c = refl
-
-shared-slice-read-mark : tie.Need-shared-slice-read-mark Inv-loop μ-loop
-shared-slice-read-mark c = search needs
-
-mark-requires : tie.Need-mark-requires Inv-loop μ-loop
-mark-requires c κs = search needs
-
-add-i : tie.Need-add-i Inv-loop μ-loop
-add-i c = search needs
-
-loop-less : tie.Need-loop-less Inv-loop μ-loop
-loop-less c = search needs
 
 loop-again : tie.Need-loop-again Inv-loop μ-loop
 loop-again c =
@@ -49,10 +34,10 @@ marked-spec =
     (tie.spec
     Inv-loop
     μ-loop
-    loop-holds
-    shared-slice-read-mark
-    mark-requires
-    add-i
-    loop-less
+    (λ c. refl)
+    (λ c. search needs)
+    (λ c κs. search needs)
+    (λ c. search needs)
+    (λ c. search needs)
     loop-again
     returns)

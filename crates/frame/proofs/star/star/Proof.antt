@@ -10,15 +10,6 @@ use Rattle.frame.proofs.Stars.{ends-there}
 use Rattle.frame.proofs.star.star.Statement.{statement}
 use Rattle.frame.proofs.star.star.Tie as tie
 
-sub-to : tie.Need-sub-to
-sub-to c = search needs
-
-shared-slice-read-if3 : tie.Need-shared-slice-read-if3
-shared-slice-read-if3 c = search needs
-
-marked-requires : tie.Need-marked-requires
-marked-requires c κs = search needs
-
 returns : tie.Need-returns
 returns c =
     let there = c .before .before in
@@ -27,13 +18,7 @@ returns c =
     let clear = sym (c .before .marked .ensures .0) ∙ c .if4 .taken in
     (a-read (ends-there s (a .at) (length s - 3) (omega arith) (omega arith) (there .if3 .taken) clear) (omega arith) (omega arith), refl)
 
-until-requires : tie.Need-until-requires
-until-requires c κs = search needs
-
-returns-2 : tie.Need-returns-2
-returns-2 c = search needs
-
 pub star-spec : {M : Type 1} → statement M
 star-spec =
     tie.close
-    (tie.spec sub-to shared-slice-read-if3 marked-requires returns until-requires returns-2)
+    (tie.spec (λ c. search needs) (λ c. search needs) (λ c κs. search needs) returns (λ c κs. search needs) (λ c. search needs))

@@ -16,21 +16,6 @@ Inv-loop s from to end x₀ i₀ x i = checksum (slice from to s) ≡ checksumFr
 abbrev μ-loop : tie.MeasureT-loop
 μ-loop s from to end x₀ i₀ x i = end - i
 
-smaller-requires : tie.Need-smaller-requires Inv-loop μ-loop
-smaller-requires c κs = search needs
-
-loop-holds : tie.Need-loop-holds Inv-loop μ-loop
-loop-holds c = refl
-
-shared-slice-read-x : tie.Need-shared-slice-read-x Inv-loop μ-loop
-shared-slice-read-x c = search needs
-
-add-i : tie.Need-add-i Inv-loop μ-loop
-add-i c = search needs
-
-loop-less : tie.Need-loop-less Inv-loop μ-loop
-loop-less c = search needs
-
 loop-again : tie.Need-loop-again Inv-loop μ-loop
 loop-again c =
     let k = c .before .before in
@@ -46,4 +31,4 @@ returns c =
 pub checksum-spec : {M : Type 1} → statement M
 checksum-spec =
     tie.close
-    (tie.spec Inv-loop μ-loop smaller-requires loop-holds shared-slice-read-x add-i loop-less loop-again returns)
+    (tie.spec Inv-loop μ-loop (λ c κs. search needs) (λ c. refl) (λ c. search needs) (λ c. search needs) (λ c. search needs) loop-again returns)

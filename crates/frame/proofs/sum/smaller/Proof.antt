@@ -3,11 +3,5 @@ use native.Mathlib.Omega.{arith}
 use Rattle.frame.proofs.sum.smaller.Statement.{statement}
 use Rattle.frame.proofs.sum.smaller.Tie as tie
 
-returns : tie.Need-returns
-returns c = omega arith
-
-returns-2 : tie.Need-returns-2
-returns-2 c = omega arith
-
 pub smaller-spec : {M : Type 1} → statement M
-smaller-spec = tie.close (tie.spec returns returns-2)
+smaller-spec = tie.close (tie.spec (λ c. omega arith) (λ c. omega arith))

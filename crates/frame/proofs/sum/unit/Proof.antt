@@ -1,17 +1,11 @@
 -- The byte is compared with the ends of the three ranges, in their order, and each answer is the definition's there. Assumes nothing.
 use native.Mathlib.Omega.{arith}
 use mathlib.Core.Path.{ap, sym}
-use Rattle.frame.specs.Digits.{orSixteen}
+use Rattle.frame.specs.Code.{orSixteen}
 use Rattle.frame.proofs.Units.{decimal, upper, lower, none-below, none-between, none-between-cases, none-above}
 use borrow.Author.Needs.{needs}
 use Rattle.frame.proofs.sum.unit.Statement.{statement}
 use Rattle.frame.proofs.sum.unit.Tie as tie
-
-add-result : tie.Need-add-result
-add-result c = search needs
-
-add-result-2 : tie.Need-add-result-2
-add-result-2 c = search needs
 
 returns : tie.Need-returns
 returns c = sym (ap orSixteen (decimal (c .before .before .args .b) (omega arith) (omega arith)))
@@ -38,8 +32,8 @@ pub unit-spec : {M : Type 1} → statement M
 unit-spec =
     tie.close
     (tie.spec
-    add-result
-    add-result-2
+    (λ c. search needs)
+    (λ c. search needs)
     returns
     returns-2
     returns-3

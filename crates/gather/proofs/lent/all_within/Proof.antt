@@ -5,7 +5,8 @@ use mathlib.Core.Path.{_≡_, ap, sym, _∙_}
 use mathlib.Core.Bool.{Bool, _&&_}
 use denote.Ref.{now}
 use borrow.Author.Needs.{needs}
-use Rattle.gather.specs.Words.{satsFrom, allWithin}
+use Rattle.gather.specs.Words.{satsFrom}
+use Rattle.gather.specs.Code.{allWithin}
 use Rattle.gather.proofs.Tests.{failed, passed}
 use Rattle.gather.proofs.Greedy.{cell-first, cells-none}
 use Rattle.gather.proofs.lent.all_within.Statement.{statement}
@@ -23,9 +24,6 @@ loop-holds c =
     let z : a .count ≡ a .count - 0 = omega arith in
     (omega arith, ap (λ (k : ℕ). allWithin (a .ids) (a .max) (satsFrom 0 k (now (a .row)))) z)
 
-cell-within-requires : tie.Need-cell-within-requires Inv-loop μ-loop
-cell-within-requires c κs = search needs
-
 returns : tie.Need-returns Inv-loop μ-loop
 returns c =
     let a = c .before .before .before .before .before .args in
@@ -34,12 +32,6 @@ returns c =
     (l .inv .1
     ∙ ap (allWithin (a .ids) (a .max)) (cell-first (now (a .row)) (a .count) (l .i) (c .before .before .loop-test .taken))
     ∙ ap (λ (b : Bool). b && allWithin (a .ids) (a .max) (satsFrom (l .i + 1) (a .count - (l .i + 1)) (now (a .row)))) (failed _ _ (c .before .cell-within .ensures) (c .if1 .taken)))
-
-add-i : tie.Need-add-i Inv-loop μ-loop
-add-i c = omega arith
-
-loop-less : tie.Need-loop-less Inv-loop μ-loop
-loop-less c = omega arith
 
 loop-again : tie.Need-loop-again Inv-loop μ-loop
 loop-again c =
@@ -64,9 +56,9 @@ all-within-spec =
     Inv-loop
     μ-loop
     loop-holds
-    cell-within-requires
+    (λ c κs. search needs)
     returns
-    add-i
-    loop-less
+    (λ c. omega arith)
+    (λ c. omega arith)
     loop-again
     returns-2)

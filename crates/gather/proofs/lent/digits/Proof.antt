@@ -21,9 +21,6 @@ loop-holds c = (omega arith, few-digits (c .args .x) 10 (omega arith) (omega ari
 add-k : tie.Need-add-k Inv-loop μ-loop
 add-k c = omega (arith, some-digit (c .before .loop .n))
 
-loop-less : tie.Need-loop-less Inv-loop μ-loop
-loop-less c = omega arith
-
 loop-again : tie.Need-loop-again Inv-loop μ-loop
 loop-again c = (omega (arith, count-tenth (c .before .loop .n) (omega arith)), c .before .loop .inv .1)
 
@@ -33,4 +30,4 @@ returns c =
     record { count = omega arith; few = omega arith }
 
 pub digits-spec : {M : Type 1} → statement M
-digits-spec = tie.close (tie.spec Inv-loop μ-loop loop-holds add-k loop-less loop-again returns)
+digits-spec = tie.close (tie.spec Inv-loop μ-loop loop-holds add-k (λ c. omega arith) loop-again returns)

@@ -20,28 +20,13 @@ Inv-loop row view count d room p₀ i₀ p i =
 abbrev μ-loop : tie.MeasureT-loop
 μ-loop row view count d room p₀ i₀ p i = count - i
 
-digits-requires : tie.Need-digits-requires Inv-loop μ-loop
-digits-requires c κs = search needs
-
-sub-room : tie.Need-sub-room Inv-loop μ-loop
-sub-room c = search needs
-
 loop-holds : tie.Need-loop-holds Inv-loop μ-loop
 loop-holds c = (ap (λ (n : ℕ). 88 - n) (c .digits .ensures .count), omega arith, record { lines = omega arith; used = omega arith }, start _ _ _)
-
-size-at-requires : tie.Need-size-at-requires Inv-loop μ-loop
-size-at-requires c κs = search needs
 
 pile-on-requires : tie.Need-pile-on-requires Inv-loop μ-loop
 pile-on-requires c κs =
     let s = c .before .before .loop .inv .2 in
     record { lines = omega (arith, s .lines); used = s .used; few = c .size-at .ensures .few }
-
-add-i : tie.Need-add-i Inv-loop μ-loop
-add-i c = omega arith
-
-loop-less : tie.Need-loop-less Inv-loop μ-loop
-loop-less c = omega arith
 
 loop-again : tie.Need-loop-again Inv-loop μ-loop
 loop-again c =
@@ -67,12 +52,12 @@ pieces-spec =
     (tie.spec
     Inv-loop
     μ-loop
-    digits-requires
-    sub-room
+    (λ c κs. search needs)
+    (λ c. search needs)
     loop-holds
-    size-at-requires
+    (λ c κs. search needs)
     pile-on-requires
-    add-i
-    loop-less
+    (λ c. omega arith)
+    (λ c. omega arith)
     loop-again
     returns)

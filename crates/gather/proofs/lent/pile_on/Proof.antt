@@ -5,26 +5,14 @@ use borrow.Author.Needs.{needs}
 use Rattle.gather.proofs.lent.pile_on.Statement.{statement}
 use Rattle.gather.proofs.lent.pile_on.Tie as tie
 
-add-t6 : tie.Need-add-t6
-add-t6 c = search needs
-
 returns : tie.Need-returns
 returns c = let a = c .before .before .before .args in put-full (a .p) (a .w) (a .room) (omega arith)
 
-add-used : tie.Need-add-used
-add-used c = search needs
-
-add-t7 : tie.Need-add-t7
-add-t7 c = search needs
-
 returns-2 : tie.Need-returns-2
 returns-2 c = let a = c .before .before .before .before .before .args in put-over (a .p) (a .w) (a .room) (omega arith) (omega arith)
-
-add-t8 : tie.Need-add-t8
-add-t8 c = search needs
 
 returns-3 : tie.Need-returns-3
 returns-3 c = let a = c .before .before .before .before .before .args in put-here (a .p) (a .w) (a .room) (omega arith) (omega arith)
 
 pub pile-on-spec : {M : Type 1} → statement M
-pile-on-spec = tie.close (tie.spec add-t6 returns add-used add-t7 returns-2 add-t8 returns-3)
+pile-on-spec = tie.close (tie.spec (λ c. search needs) returns (λ c. search needs) (λ c. search needs) returns-2 (λ c. search needs) returns-3)

@@ -1,4 +1,5 @@
 -- `row_stands` meets its contract: test by test; short entries are only counted, by `Quick`. Assumes nothing.
+use native.Mathlib.Omega.{arith}
 use mathlib.Core.Path.{refl, sym, _∙_}
 use denote.Ref.{now}
 use borrow.Author.Tests.{le-leb, lt-leb, eq-eqb, ne-eqb}
@@ -11,9 +12,6 @@ use Rattle.gather.proofs.lent.row_stands.Tie as tie
 returns : tie.Need-returns
 returns c = (simp (ne-eqb _ _ (c .if1 .taken)), refl)
 
-shared-slice-read-next : tie.Need-shared-slice-read-next
-shared-slice-read-next c = search needs
-
 returns-2 : tie.Need-returns-2
 returns-2 c = (
   simp (
@@ -22,9 +20,6 @@ returns-2 c = (
   ),
   refl,
 )
-
-shared-slice-read-n : tie.Need-shared-slice-read-n
-shared-slice-read-n c = search needs
 
 returns-3 : tie.Need-returns-3
 returns-3 c = (
@@ -47,9 +42,6 @@ returns-4 c = (
   refl,
 )
 
-shared-slice-read-view : tie.Need-shared-slice-read-view
-shared-slice-read-view c = search needs
-
 returns-5 : tie.Need-returns-5
 returns-5 c = (
   simp (
@@ -62,26 +54,8 @@ returns-5 c = (
   refl,
 )
 
-shared-slice-read-many : tie.Need-shared-slice-read-many
-shared-slice-read-many c = search needs
-
 returns-6 : tie.Need-returns-6
 returns-6 c = (many-fails (now (c .before .before .before .before .before .before .before .before .before .before .before .args .row)) (c .if6 .taken), refl)
-
-cast-count : tie.Need-cast-count
-cast-count c = search needs
-
-cast-came : tie.Need-cast-came
-cast-came c = search needs
-
-sub-came : tie.Need-sub-came
-sub-came c = search needs
-
-all-within-requires : tie.Need-all-within-requires
-all-within-requires c κs = search needs
-
-mul-result : tie.Need-mul-result
-mul-result c = search needs
 
 returns-7 : tie.Need-returns-7
 returns-7 c =
@@ -96,9 +70,6 @@ returns-7 c =
     in
     (short-stands _ head (sym (c .before .all-within .ensures) ∙ c .if7 .taken), refl)
 
-all-within-requires-2 : tie.Need-all-within-requires-2
-all-within-requires-2 c κs = search needs
-
 returns-8 : tie.Need-returns-8
 returns-8 c =
     let head : Head (now (c .before .before .before .before .before .before .before .before .before .before .before .before .before .before .before .args .row)) =
@@ -111,9 +82,6 @@ returns-8 c =
     }
     in
     (unreadable _ head (failed _ _ (c .before .all-within2 .ensures) (c .if8 .taken)), refl)
-
-pieces-requires : tie.Need-pieces-requires
-pieces-requires c κs = search needs
 
 returns-9 : tie.Need-returns-9
 returns-9 c =
@@ -133,22 +101,22 @@ row-stands-spec =
     tie.close
     (tie.spec
     returns
-    shared-slice-read-next
+    (λ c. search needs)
     returns-2
-    shared-slice-read-n
+    (λ c. search needs)
     returns-3
     returns-4
-    shared-slice-read-view
+    (λ c. search needs)
     returns-5
-    shared-slice-read-many
+    (λ c. search needs)
+    (λ c. omega (arith, c .shared-slice-known5 .given 3))
     returns-6
-    cast-count
-    cast-came
-    sub-came
-    all-within-requires
-    mul-result
+    (λ c. search needs)
+    (λ c. search needs)
+    (λ c κs. search needs)
+    (λ c. search needs)
     returns-7
-    all-within-requires-2
+    (λ c κs. search needs)
     returns-8
-    pieces-requires
+    (λ c κs. search needs)
     returns-9)

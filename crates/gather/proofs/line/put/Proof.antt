@@ -6,9 +6,9 @@ use lib.ListN.{length-set}
 use borrow.Author.Tests.{not-true, not-false}
 use Rattle.gsv.proofs.Present.{at-most-four}
 use Rattle.rows.specs.Line.{lineOf}
-use Rattle.sentence.specs.Answer.{gsvSentence}
+use Rattle.gsv.specs.Answer.{gsvSentence}
 use Rattle.gather.specs.Words.{meant}
-use Rattle.gather.specs.Put.{beforeOf}
+use Rattle.gather.specs.Code.{beforeOf}
 use Rattle.gather.proofs.Cells.{stored-long}
 use Rattle.gather.proofs.Runs.{by-head, no-row, stops, runs, completes, waits}
 use borrow.Author.Needs.{needs}
@@ -17,15 +17,6 @@ use Rattle.gather.proofs.line.put.Tie as tie
 
 returns : tie.Need-returns
 returns c = no-row (now (c .before .before .args .row)) (lineOf (gsvSentence (c .before .before .args .line))) (c .if1 .taken)
-
-so-far-requires : tie.Need-so-far-requires
-so-far-requires c κs = search needs
-
-slice-write-row : tie.Need-slice-write-row
-slice-write-row c = search needs
-
-same-length : tie.Need-same-length
-same-length c = search needs
 
 returns-2 : tie.Need-returns-2
 returns-2 c =
@@ -46,10 +37,7 @@ put-slots-requires c κs =
     let b = c .before .before .before .so-far in
     let e = b .ensures ∙ ap beforeOf (by-head (meant ws) g) in
     let x = runs ws g long (b .result) e (not-false _ (c .before .if2 .left)) in
-    (long, x .few)
-
-slice-write-row-2 : tie.Need-slice-write-row-2
-slice-write-row-2 c = search needs
+    (long, omega (arith, x .few))
 
 slice-write-row-3 : tie.Need-slice-write-row-3
 slice-write-row-3 c = simp length-set (omega (arith, stored-long (c .before .before .before .put-slots .ensures), c .before .before .before .before .before .before .before .before .before .before .if1 .left))
@@ -70,9 +58,6 @@ cast-row c =
 
 slice-write-row-5 : tie.Need-slice-write-row-5
 slice-write-row-5 c = simp length-set (omega (arith, stored-long (c .before .before .before .put-slots .ensures), c .before .before .before .before .before .before .before .before .before .before .if1 .left))
-
-same-length-2 : tie.Need-same-length-2
-same-length-2 c = search needs
 
 returns-3 : tie.Need-returns-3
 returns-3 c =
@@ -116,9 +101,6 @@ cast-row-2 c =
 slice-write-row-8 : tie.Need-slice-write-row-8
 slice-write-row-8 c = simp length-set (omega (arith, stored-long (c .before .before .before .put-slots .ensures), c .before .before .before .before .before .before .before .before .before .before .if1 .left))
 
-same-length-3 : tie.Need-same-length-3
-same-length-3 c = search needs
-
 returns-4 : tie.Need-returns-4
 returns-4 c =
     let a = c .before .before .before .before .before .before .before .before .before .before .before .before .args in
@@ -135,22 +117,22 @@ put-spec =
     tie.close
     (tie.spec
     returns
-    so-far-requires
-    slice-write-row
-    same-length
+    (λ c κs. search needs)
+    (λ c. search needs)
+    (λ c. search needs)
     returns-2
     put-slots-requires
-    slice-write-row-2
+    (λ c. search needs)
     slice-write-row-3
     slice-write-row-4
     cast-row
     slice-write-row-5
-    same-length-2
+    (λ c. search needs)
     returns-3
     add-row
     slice-write-row-6
     slice-write-row-7
     cast-row-2
     slice-write-row-8
-    same-length-3
+    (λ c. search needs)
     returns-4)

@@ -7,9 +7,6 @@ use borrow.Author.Needs.{needs}
 use Rattle.gather.proofs.line.put_slots.Statement.{statement}
 use Rattle.gather.proofs.line.put_slots.Tie as tie
 
-put-slot-requires : tie.Need-put-slot-requires
-put-slot-requires c κs = search needs
-
 put-slot-requires-2 : tie.Need-put-slot-requires-2
 put-slot-requires-2 c κs =
     let at = c .before .before .before .before .before .before in
@@ -41,9 +38,6 @@ put-slot-requires-4 c κs =
       ),
     )
 
-same-length : tie.Need-same-length
-same-length c = search needs
-
 returns : tie.Need-returns
 returns c =
     let d = c .before .before .before .before .before .before .before .before .before .before .before .before .before .before .before .before .before .args .d in
@@ -54,9 +48,9 @@ pub put-slots-spec : {M : Type 1} → statement M
 put-slots-spec =
     tie.close
     (tie.spec
-    put-slot-requires
+    (λ c κs. search needs)
     put-slot-requires-2
     put-slot-requires-3
     put-slot-requires-4
-    same-length
+    (λ c. search needs)
     returns)

@@ -3,7 +3,7 @@ use native.Mathlib.Omega.{arith}
 use mathlib.Core.Path.{ap, sym}
 use denote.Ref.{now}
 use Rattle.gather.specs.Words.{meant}
-use Rattle.gather.specs.Put.{beforeOf}
+use Rattle.gather.specs.Code.{beforeOf}
 use Rattle.gather.proofs.Tests.{failed, passed}
 use Rattle.gather.proofs.Runs.{too-few, too-high, starts, breaks, gone-on}
 use borrow.Author.Needs.{needs}
@@ -25,16 +25,10 @@ returns-3 c =
     let a = c .before .before .before .before .args in
     ap beforeOf (sym (starts (meant (now (a .row))) (a .n) (a .number) (a .view) (c .before .before .if1 .taken) (c .before .if2 .left) (c .if3 .left)))
 
-goes-on-requires : tie.Need-goes-on-requires
-goes-on-requires c κs = search needs
-
 returns-4 : tie.Need-returns-4
 returns-4 c =
     let a = c .before .before .before .before .args in
     ap beforeOf (sym (breaks (now (a .row)) (a .n) (a .number) (a .view) (c .before .before .if1 .left) (failed _ _ (c .before .goes-on .ensures) (c .if4 .taken))))
-
-shared-slice-read-count : tie.Need-shared-slice-read-count
-shared-slice-read-count c = search needs
 
 cast-t11 : tie.Need-cast-t11
 cast-t11 c = omega (arith, c .shared-slice-known2 .given 3)
@@ -51,8 +45,8 @@ so-far-spec =
     returns
     returns-2
     returns-3
-    goes-on-requires
+    (λ c κs. search needs)
     returns-4
-    shared-slice-read-count
+    (λ c. search needs)
     cast-t11
     returns-5)

@@ -47,7 +47,7 @@ use Rattle.frame.proofs.refusal.Talker as P
 use Rattle.frame.proofs.refusal.Talker.Laws as P′
 use Rattle.frame.proofs.refusal.Kind as K
 use Rattle.frame.proofs.refusal.Kind.Laws as K′
-use Rattle.held.specs.Calculated.{sumOf}
+use Rattle.held.specs.Answer.{sumOf}
 use Rattle.held.specs.declared.NmeaSentence.{NmeaSentence}
 use Rattle.held.proofs.NmeaSentence as T
 use Rattle.held.proofs.NmeaSentence.Laws as T′

@@ -12,32 +12,14 @@ cast-signed c =
     let f : SFits w32 z = search needs in
     wider z f
 
-signed-requires : tie.Need-signed-requires
-signed-requires c κs = search needs
-
-small-requires : tie.Need-small-requires
-small-requires c κs = search needs
-
-bits-f32-requires : tie.Need-bits-f32-requires
-bits-f32-requires c κs = search needs
-
-cast-bits : tie.Need-cast-bits
-cast-bits c = search needs
-
-bits-requires : tie.Need-bits-requires
-bits-requires c κs = search needs
-
-returns : tie.Need-returns
-returns c = search needs
-
 pub short-decimal-spec : {M : Type 1} → statement M
 short-decimal-spec =
     tie.close
     (tie.spec
     cast-signed
-    signed-requires
-    small-requires
-    bits-f32-requires
-    cast-bits
-    bits-requires
-    returns)
+    (λ c κs. search needs)
+    (λ c κs. search needs)
+    (λ c κs. search needs)
+    (λ c. search needs)
+    (λ c κs. search needs)
+    (λ c. search needs))

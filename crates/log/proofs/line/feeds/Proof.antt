@@ -20,21 +20,6 @@ abbrev μ-loop : tie.MeasureT-loop
 loop-holds : tie.Need-loop-holds Inv-loop μ-loop
 loop-holds c = (omega arith, λ e. clear-none (now (c .before .args .log)) (c .before .args .at))
 
-add-saw : tie.Need-add-saw Inv-loop μ-loop
-add-saw c = omega arith
-
-shared-slice-read-saw : tie.Need-shared-slice-read-saw Inv-loop μ-loop
-shared-slice-read-saw c = omega arith
-
-saw-requires : tie.Need-saw-requires Inv-loop μ-loop
-saw-requires c κs = search needs
-
-add-j : tie.Need-add-j Inv-loop μ-loop
-add-j c = search needs
-
-loop-less : tie.Need-loop-less Inv-loop μ-loop
-loop-less c = search needs
-
 loop-again : tie.Need-loop-again Inv-loop μ-loop
 loop-again c =
     let l = c .before .before .before in
@@ -55,10 +40,10 @@ feeds-spec =
     Inv-loop
     μ-loop
     loop-holds
-    add-saw
-    shared-slice-read-saw
-    saw-requires
-    add-j
-    loop-less
+    (λ c. omega arith)
+    (λ c. omega arith)
+    (λ c κs. search needs)
+    (λ c. search needs)
+    (λ c. search needs)
     loop-again
     returns)

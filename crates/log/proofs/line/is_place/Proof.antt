@@ -14,15 +14,9 @@ returns-2 c = (sym (place-end _ _ (c .if2 .taken)), refl)
 returns-3 : tie.Need-returns-3
 returns-3 c = (sym (place-past _ _ (c .before .before .if1 .left) (c .if3 .taken)), refl)
 
-sub-result : tie.Need-sub-result
-sub-result c = search needs
-
-shared-slice-read-result : tie.Need-shared-slice-read-result
-shared-slice-read-result c = search needs
-
 returns-4 : tie.Need-returns-4
 returns-4 c = (sym (place-feed _ _ (c .before .before .before .if1 .left) (c .before .before .if2 .left)), refl)
 
 pub is-place-spec : {M : Type 1} → statement M
 is-place-spec =
-    tie.close (tie.spec returns returns-2 returns-3 sub-result shared-slice-read-result returns-4)
+    tie.close (tie.spec returns returns-2 returns-3 (λ c. search needs) (λ c. search needs) returns-4)

@@ -16,16 +16,10 @@ returns c =
       line = cut-empty (now (a .log)) (a .at) (a .end) (c .before .pre .1) (c .if1 .taken);
     }
 
-sub-if2 : tie.Need-sub-if2
-sub-if2 c = search needs
-
 shared-slice-read-if2 : tie.Need-shared-slice-read-if2
 shared-slice-read-if2 c =
     let a = c .before .before .args in
     omega (arith, long-within (now (a .log)) (a .at) (c .before .before .pre .0), c .before .before .pre)
-
-sub-result : tie.Need-sub-result
-sub-result c = search needs
 
 returns-2 : tie.Need-returns-2
 returns-2 c =
@@ -49,4 +43,4 @@ returns-3 c =
 
 pub line-cut-spec : {M : Type 1} → statement M
 line-cut-spec =
-    tie.close (tie.spec returns sub-if2 shared-slice-read-if2 sub-result returns-2 returns-3)
+    tie.close (tie.spec returns (λ c. search needs) shared-slice-read-if2 (λ c. search needs) returns-2 returns-3)

@@ -14,26 +14,11 @@ Inv-loop log at i₀ i = at + length (stretch (drop at log)) ≡ i + length (str
 abbrev μ-loop : tie.MeasureT-loop
 μ-loop log at i₀ i = length log - i
 
-loop-holds : tie.Need-loop-holds Inv-loop μ-loop
-loop-holds c = refl
-
-sub-if1 : tie.Need-sub-if1 Inv-loop μ-loop
-sub-if1 c = search needs
-
 returns : tie.Need-returns Inv-loop μ-loop
 returns c = c .before .before .loop .inv
 
-feeds-requires : tie.Need-feeds-requires Inv-loop μ-loop
-feeds-requires c κs = omega arith
-
 returns-2 : tie.Need-returns-2 Inv-loop μ-loop
 returns-2 c = c .before .before .before .before .loop .inv
-
-add-i : tie.Need-add-i Inv-loop μ-loop
-add-i c = search needs
-
-loop-less : tie.Need-loop-less Inv-loop μ-loop
-loop-less c = omega arith
 
 loop-again : tie.Need-loop-again Inv-loop μ-loop
 loop-again c = omega (arith, c .before .before .before .before .loop .inv, c .before .feeds .ensures (c .if2 .left))
@@ -47,12 +32,12 @@ skip-spec =
     (tie.spec
     Inv-loop
     μ-loop
-    loop-holds
-    sub-if1
+    (λ c. refl)
+    (λ c. search needs)
     returns
-    feeds-requires
+    (λ c κs. omega arith)
     returns-2
-    add-i
-    loop-less
+    (λ c. search needs)
+    (λ c. omega arith)
     loop-again
     returns-3)

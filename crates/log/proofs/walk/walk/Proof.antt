@@ -19,9 +19,6 @@ abbrev μ-loop : tie.MeasureT-loop
 returns : tie.Need-returns Inv-loop μ-loop
 returns c = let a = c .before .before .before .args in (walk-long (now (a .log)) (a .place) (a .allowance) (now (a .words)) (c .if1 .taken), refl)
 
-is-place-requires : tie.Need-is-place-requires Inv-loop μ-loop
-is-place-requires c κs = search needs
-
 returns-2 : tie.Need-returns-2 Inv-loop μ-loop
 returns-2 c =
     let a = c .before .before .before .before .before .args in
@@ -32,9 +29,6 @@ loop-holds c =
     let a = c .before .before .before .before .before .args in
     goes-first (now (a .log)) (a .place) (a .allowance) (now (a .words)) (c .before .before .if1 .left) (sym (c .before .is-place .ensures .0) ∙ not-false _ (c .if2 .left))
 
-advance-requires : tie.Need-advance-requires Inv-loop μ-loop
-advance-requires c κs = search needs
-
 tally-requires : tie.Need-tally-requires Inv-loop μ-loop
 tally-requires c κs =
     let k = c .before .before .before .before .before .before .before in
@@ -44,21 +38,21 @@ with-group-requires : tie.Need-with-group-requires Inv-loop μ-loop
 with-group-requires c κs =
     let k = c .before .before .before .before .before .before .before .before in
     let a = c .before .before .before .before .before .before .before .before .before .before .before .before .before .before .args in
-    few-groups (now (a .log)) (a .place) (a .allowance) (now (a .words)) (k .loop .c) (k .loop .words) (k .loop .inv) (c .before .before .before .before .before .before .if3 .taken) (c .before .before .before .before .before .if4 .left) _ (c .before .before .before .advance .result) (c .before .before .before .advance .ensures)
+    few-groups (now (a .log)) (a .place) (a .allowance) (now (a .words)) (k .loop .c) (k .loop .words) (k .loop .inv) (c .before .before .before .before .before .before .if3 .taken) (c .before .before .before .before .before .if4 .left) _ (c .before .before .before .take-line .result) (c .before .before .before .take-line .ensures)
     (c .tally .result) (c .tally .ensures)
 
 loop-less : tie.Need-loop-less Inv-loop μ-loop
 loop-less c =
     let k = c .before .before .before .before .before .before .before .before .before in
     let a = c .before .before .before .before .before .before .before .before .before .before .before .before .before .before .before .args in
-    further (now (a .log)) (a .place) (a .allowance) (now (a .words)) (k .loop .c) (k .loop .words) (k .loop .inv) (c .before .before .before .before .before .before .before .if3 .taken) (c .before .before .before .before .before .before .if4 .left) _ (c .before .before .before .before .advance .result) (c .before .before .before .before .advance .ensures)
+    further (now (a .log)) (a .place) (a .allowance) (now (a .words)) (k .loop .c) (k .loop .words) (k .loop .inv) (c .before .before .before .before .before .before .before .if3 .taken) (c .before .before .before .before .before .before .if4 .left) _ (c .before .before .before .before .take-line .result) (c .before .before .before .before .take-line .ensures)
     (c .before .tally .result) (c .before .tally .ensures) (c .with-group .result) (c .with-group .ensures)
 
 loop-again : tie.Need-loop-again Inv-loop μ-loop
 loop-again c =
     let k = c .before .before .before .before .before .before .before .before .before in
     let a = c .before .before .before .before .before .before .before .before .before .before .before .before .before .before .before .args in
-    after-turn (now (a .log)) (a .place) (a .allowance) (now (a .words)) (k .loop .c) (k .loop .words) (k .loop .inv) (c .before .before .before .before .before .before .before .if3 .taken) (c .before .before .before .before .before .before .if4 .left) _ (c .before .before .before .before .advance .result) (c .before .before .before .before .advance .ensures)
+    after-turn (now (a .log)) (a .place) (a .allowance) (now (a .words)) (k .loop .c) (k .loop .words) (k .loop .inv) (c .before .before .before .before .before .before .before .if3 .taken) (c .before .before .before .before .before .before .if4 .left) _ (c .before .before .before .before .take-line .result) (c .before .before .before .before .take-line .ensures)
     (c .before .tally .result) (c .before .tally .ensures) (c .with-group .result) (c .with-group .ensures)
 
 same-length : tie.Need-same-length Inv-loop μ-loop
@@ -86,10 +80,10 @@ walk-spec =
     Inv-loop
     μ-loop
     returns
-    is-place-requires
+    (λ c κs. search needs)
     returns-2
     loop-holds
-    advance-requires
+    (λ c κs. search needs)
     tally-requires
     with-group-requires
     loop-less

@@ -1,0 +1,5 @@
+pub mod Worked
+pub mod OneByte
+pub mod Numbered
+pub mod Number
+pub mod Nines

@@ -1,0 +1,1 @@
+// The answer to any byte string, in definitions alone: what the theory of lines and groups stands on, and the code meets.

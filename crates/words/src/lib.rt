@@ -1,0 +1,21 @@
+// The words of an answer, put straight into words that are lent: 40 for each, or none where there is no room for 40.
+mod gsa_words;
+mod gsv_words;
+mod other;
+mod part;
+mod refused;
+mod rmc_words;
+
+pub use gsa_words::put_gsa;
+pub use gsv_words::AZIMUTH;
+pub use gsv_words::ELEVATION;
+pub use gsv_words::ENTRY_WORDS;
+pub use gsv_words::SATELLITE;
+pub use gsv_words::SIGNAL;
+pub use gsv_words::put_gsv;
+pub use other::put_other;
+pub use refused::put_refused;
+pub use rmc_words::put_rmc;
+
+// How many words an answer has.
+pub const WORDS: usize = 40;

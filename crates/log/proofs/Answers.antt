@@ -13,9 +13,10 @@ use Rattle.log.specs.declared.walk.Counts.{Counts}
 use Rattle.log.specs.declared.walk.Walked as Code
 use Rattle.log.specs.declared.walk.Walked.the-variants.{Refused, Went}
 use Rattle.log.specs.Step.{longest}
-use Rattle.log.specs.Walk.{begin, Walked, gone, walkOf}
+use Rattle.log.specs.Walk.{Walked, gone, walkOf}
 use Rattle.log.specs.Answer.{walkIn, SaysWalk}
 use Rattle.log.proofs.Goes.{goOn, go-none, go-end, Goes}
+use Rattle.log.proofs.Limit.{walk-is}
 
 answered : (a : Code.Walked) (g : Gatherer) {w : Walked} → _≡_ {A = Walked} (record { answer = walkIn a; gatherer = g }) w
     → SaysWalk w g a
@@ -32,15 +33,11 @@ module _ (log : List ℕ) (p n : ℕ) (g : Gatherer) where
     walk-bad t = answered (Refused (BadPlace p)) g (simp (le-ltb longest (length log) short, sym tested ∙ not-true place t))
 
     module _ (t : not place ≡ false) where
-      walk-good : gone (goOn log n (begin p g)) ≡ walkOf log p n g
-      unfolding walkOf
-      walk-good = simp (le-ltb longest (length log) short, sym tested ∙ not-false place t)
-
       module _ (c : Counts) (a : Gatherer) (w : Goes log p n g c a) where
         -- no step is left
         walk-done : goOn log (n - c .lines) (record { counts = c; gatherer = a }) ≡ record { counts = c; gatherer = a }
             → SaysWalk (walkOf log p n g) a (Went c)
-        walk-done e = answered (Went c) a (sym (ap gone (w .same ∙ e)) ∙ walk-good)
+        walk-done e = answered (Went c) a (sym (walk-is log short p n g (sym tested ∙ not-false place t) ∙ ap gone (w .same ∙ e)))
 
         -- the allowance is used up
         pub walk-used : n ≤ c .lines → SaysWalk (walkOf log p n g) a (Went c)

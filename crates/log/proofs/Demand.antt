@@ -1,4 +1,4 @@
--- 01, demand 3, over the bytes of logs and the answers of steps from place 0 and a fresh gatherer. (Its first sentence is `hands-out` of
+-- 01, demand 3, over the bytes of logs of any length and the answers of steps from place 0 and a fresh gatherer. (Its first sentence is `hands-out` of
 -- Handing.) Assumes nothing.
 use Prim.Native.Nat.{ℕ, suc, _+_, _≤_, _<_}
 use native.Mathlib.Omega.{arith}
@@ -7,7 +7,7 @@ use mathlib.Core.Logic.{_⊎_, _↔_}
 use mathlib.Core.List.{List, [], _∷_, _++_, map, map-append}
 use mathlib.Core.Bool.{true}
 use mathlib.Core.Option.{some}
-use lib.ListN.{length, take, drop, getD, set, length-append, length-set}
+use lib.ListN.{length, take, drop, getD, set, length-append}
 use lib.Seq.{getD-append-add}
 use Rattle.text.specs.Bytes.{byte}
 use Rattle.frame.specs.Refused.{Refused}
@@ -21,14 +21,12 @@ use Rattle.gsv.specs.Gsv.{Satellite}
 use Rattle.answer.specs.Sentence.{answer, isRefused}
 use Rattle.answer.proofs.OneByte.{Refuses, one-byte-refused}
 use Rattle.fed.specs.Line.{Said, blank, read, saidOf}
-use Rattle.log.specs.Step.{longest}
 use Rattle.log.specs.Told.{says, told, stepAfter, lineIn, Gives}
 use Rattle.log.proofs.Damage.{says-count, line-before, line-after, same-before, same-after}
 use Rattle.log.proofs.Handing.{says-line, hands-out}
 
 -- WHOLE LINES m REPLACED BY WHOLE LINES m′, between a and b. (Where nothing follows, the last line may lack its line feed.)
-module _ (a b m m′ : List ℕ) (whole : Whole a) (w : Whole m ⊎ (b ≡ [])) (w′ : Whole m′ ⊎ (b ≡ []))
-    (short : length (a ++ (m ++ b)) ≤ longest) (short′ : length (a ++ (m′ ++ b)) ≤ longest) where
+module _ (a b m m′ : List ℕ) (whole : Whole a) (w : Whole m ⊎ (b ≡ [])) (w′ : Whole m′ ⊎ (b ≡ [])) where
   abbrev log : List ℕ
   log = a ++ (m ++ b)
 
@@ -45,23 +43,23 @@ module _ (a b m m′ : List ℕ) (whole : Whole a) (w : Whole m ⊎ (b ≡ [])) 
   -- "all lines outside keep their answers": those before
   pub keeps-before : (i : ℕ) → i < length (says a) → lineIn (stepAfter i log .answer) ≡ lineIn (stepAfter i log′ .answer)
   keeps-before i h =
-      says-line log short i (omega (arith, says-count a b whole m w))
+      says-line log i (omega (arith, says-count a b whole m w))
       ∙ ap (λ (s : Said). some s) (line-before a b whole m i h ∙ sym (line-before a b whole m′ i h))
-      ∙ sym (says-line log′ short′ i (omega (arith, says-count a b whole m′ w′)))
+      ∙ sym (says-line log′ i (omega (arith, says-count a b whole m′ w′)))
 
   -- and those after
   pub keeps-after : (i : ℕ) → i < length (says b) → lineIn (stepAfter (from + i) log .answer) ≡ lineIn (stepAfter (from′ + i) log′ .answer)
   keeps-after i h =
-      says-line log short (from + i) (omega (arith, says-count a b whole m w))
+      says-line log (from + i) (omega (arith, says-count a b whole m w))
       ∙ ap (λ (s : Said). some s) (line-after a b whole m w i ∙ sym (line-after a b whole m′ w′ i))
-      ∙ sym (says-line log′ short′ (from′ + i) (omega (arith, says-count a b whole m′ w′)))
+      ∙ sym (says-line log′ (from′ + i) (omega (arith, says-count a b whole m′ w′)))
 
   -- groups that are handed out before are the same
   pub groups-before : (i : ℕ) → i < length (says a) → (h : Handed Satellite)
       → Gives (stepAfter i log) h ↔ Gives (stepAfter i log′) h
   groups-before i k h =
-      let x = hands-out log short i (omega (arith, says-count a b whole m w)) h in
-      let y = hands-out log′ short′ i (omega (arith, says-count a b whole m′ w′)) h in
+      let x = hands-out log i (omega (arith, says-count a b whole m w)) h in
+      let y = hands-out log′ i (omega (arith, says-count a b whole m′ w′)) h in
       (λ g. y .1 (same-before a b whole m m′ w w′ i h k (x .0 g)), λ g. x .1 (same-before a b whole m′ m w′ w i h k (y .0 g)))
 
   -- "each system's groups are the same from its next accepted GSV numbered 1", which stands at j of b
@@ -69,14 +67,14 @@ module _ (a b m m′ : List ℕ) (whole : Whole a) (w : Whole m ⊎ (b ≡ [])) 
       → (i : ℕ) → j ≤ i → i < length (says b) → (h : Handed Satellite) → h .key ≡ g .key
       → Gives (stepAfter (from + i) log) h ↔ Gives (stepAfter (from′ + i) log′) h
   groups-after j g e one i le k h mine =
-      let x = hands-out log short (from + i) (omega (arith, says-count a b whole m w)) h in
-      let y = hands-out log′ short′ (from′ + i) (omega (arith, says-count a b whole m′ w′)) h in (
+      let x = hands-out log (from + i) (omega (arith, says-count a b whole m w)) h in
+      let y = hands-out log′ (from′ + i) (omega (arith, says-count a b whole m′ w′)) h in (
         λ q. y .1 (same-after a b whole m m′ w w′ j g e one i h le mine (x .0 q)),
         λ q. x .1 (same-after a b whole m′ m w′ w j g e one i h le mine (y .0 q)),
       )
 
 -- ONE BYTE c AT k OF THE LINE AT p, between its `$` and its closing `*`, in place of another; c is neither `*` nor a line feed
-module _ (log : List ℕ) (short : length log ≤ longest) (p : ℕ) (place : isPlace log p ≡ true) (q : Parts)
+module _ (log : List ℕ) (p : ℕ) (place : isPlace log p ≡ true) (q : Parts)
     (passed : frame (lineAt log p) ≡ accepted q) (k c : ℕ) (first : 0 < k) (last : k < dataFrom + length (q .text))
     (another : c ≡ getD (lineAt log p) k 0 → ⊥) (star : c ≡ byte "*" → ⊥) (feed : c ≡ byte "\n" → ⊥) where
   abbrev pub damaged : List ℕ
@@ -120,9 +118,6 @@ module _ (log : List ℕ) (short : length log ≤ longest) (p : ℕ) (place : is
       ∙ map-append saidOf (lines (take p log)) _
       ∙ ap (λ (s : Said). before ++ (s ∷ after)) (said-set (lineAt log p) inside ∙ ap read (refuses .is))
 
-  short′ : length damaged ≤ longest
-  short′ = omega (arith, length-set log (p + k) c)
-
   count : length (says damaged) ≡ length (says log)
   unfolding before after
   count = ap length is ∙ length-append before _ ∙ sym (ap length was ∙ length-append before _)
@@ -136,7 +131,7 @@ module _ (log : List ℕ) (short : length log ≤ longest) (p : ℕ) (place : is
   unfolding before after
   line-refused =
       let z : index ≡ length before + 0 = omega arith in
-      says-line damaged short′ index index-in
+      says-line damaged index index-in
       ∙ ap (λ (ss : List Said). some (getD ss index blank)) is
       ∙ ap (λ (i : ℕ). some (getD (before ++ (read (isRefused why) ∷ after)) i blank)) z
       ∙ ap (λ (s : Said). some s) (getD-append-add before (read (isRefused why) ∷ after) 0 blank)
@@ -154,8 +149,8 @@ module _ (log : List ℕ) (short : length log ≤ longest) (p : ℕ) (place : is
 
   pub others-keep : (i : ℕ) → i < length (says log) → (i ≡ index → ⊥) → lineIn (stepAfter i damaged .answer) ≡ lineIn (stepAfter i log .answer)
   others-keep i h n =
-      says-line damaged short′ i (omega (arith, count))
+      says-line damaged i (omega (arith, count))
       ∙ ap (λ (ss : List Said). some (getD ss i blank)) is
       ∙ ap (λ (s : Said). some s) (other-line (read (isRefused why)) (saidOf (lineAt log p)) i n)
       ∙ ap (λ (ss : List Said). some (getD ss i blank)) (sym was)
-      ∙ sym (says-line log short i h)
+      ∙ sym (says-line log i h)

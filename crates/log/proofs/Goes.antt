@@ -18,12 +18,12 @@ use Rattle.fed.specs.Fed.{isHanded}
 use Rattle.fed.proofs.Counts.{one-of-three}
 use Rattle.log.specs.declared.walk.Counts.{Counts}
 use Rattle.log.specs.declared.walk.LineTaken.{LineTaken}
-use Rattle.log.specs.Step.{longest, Stepped}
+use Rattle.log.specs.Step.{longest, Stepped, stepAt}
 use Rattle.log.specs.Walk.{tallied, grouped, Going, counted, onward, steps, begin}
 use Rattle.log.specs.Code.{talliedBy, Within, Takes}
 use Rattle.log.proofs.Places.{place-within}
 use Rattle.log.proofs.Adds.{by-sort}
-use Rattle.log.proofs.OneStep.{at-line, good-place}
+use Rattle.log.proofs.OneStep.{at-line, at-end}
 
 -- the counts with a line more, and what it does to the gatherer
 abbrev goingBy : Counts → Gathered → Going
@@ -39,12 +39,12 @@ lineGathered log w = gathers (w .gatherer) (gsvOf (saidOf (lineAt log (w .counts
 abbrev pub going : List ℕ → Going → Going
 going log w = goingBy (lineTallied log (w .counts)) (lineGathered log w)
 
-pub onward-line : (log : List ℕ) (w : Going) → length log ≤ longest → isPlace log (w .counts .next) ≡ true → (w .counts .next ≡ length log → ⊥)
-    → onward log w ≡ going log w
-onward-line log w short place n =
-    sym
-    (ap (λ (s : Stepped). counted w (s .gathered) (s .answer))
-    (at-line log (w .counts .next) (w .gatherer) n ∙ good-place log (w .counts .next) (w .gatherer) short place))
+pub onward-line : (log : List ℕ) (w : Going) → (w .counts .next ≡ length log → ⊥) → onward (stepAt log) w ≡ going log w
+onward-line log w n = sym (ap (λ (s : Stepped). counted w (s .gathered) (s .answer)) (at-line log (w .counts .next) (w .gatherer) n))
+
+-- and at the end
+pub onward-end : (log : List ℕ) (w : Going) → w .counts .next ≡ length log → onward (stepAt log) w ≡ w
+onward-end log w e = sym (ap (λ (s : Stepped). counted w (s .gathered) (s .answer)) (at-end log (w .counts .next) (w .gatherer) e))
 
 -- a group more changes neither the lines nor the place
 grouped-next : (c : Counts) (b : Bool) → grouped c b .next ≡ c .next
@@ -84,31 +84,30 @@ fit-within log c f h = record { lines = omega arith; blank = omega arith; accept
 module _ (log : List ℕ) where
   -- as many steps as are left, or as the allowance has
   abbrev pub goOn : ℕ → Going → Going
-  goOn n w = steps (min n (length (lines (drop (w .counts .next) log)))) log w
+  goOn n w = steps (stepAt log) (min n (length (lines (drop (w .counts .next) log)))) w
 
   pub go-none : (n : ℕ) (w : Going) → n ≡ 0 → goOn n w ≡ w
   unfolding steps
   go-none n w e =
       let z : min n (length (lines (drop (w .counts .next) log))) ≡ 0 = omega arith in
-      ap (λ (k : ℕ). steps k log w) z
+      ap (λ (k : ℕ). steps (stepAt log) k w) z
 
   pub go-end : (n : ℕ) (w : Going) → length log ≤ w .counts .next → goOn n w ≡ w
   unfolding steps
   go-end n w h =
       let l : length (lines (drop (w .counts .next) log)) ≡ 0 = ap length (lines-end log (w .counts .next) h) in
       let z : min n (length (lines (drop (w .counts .next) log))) ≡ 0 = omega arith in
-      ap (λ (k : ℕ). steps k log w) z
+      ap (λ (k : ℕ). steps (stepAt log) k w) z
 
-  pub go-more : (n : ℕ) (w : Going) → length log ≤ longest → isPlace log (w .counts .next) ≡ true → 0 < n → w .counts .next < length log
-      → goOn n w ≡ goOn (n - 1) (going log w)
+  pub go-more : (n : ℕ) (w : Going) → 0 < n → w .counts .next < length log → goOn n w ≡ goOn (n - 1) (going log w)
   unfolding steps
-  go-more n w short place pos h =
+  go-more n w pos h =
       let p = w .counts .next in
       let l : length (lines (drop p log)) ≡ suc (length (lines (drop (nextPlace log p) log))) = ap length (lines-here log p h) in
       let z : min n (length (lines (drop p log))) ≡ suc (min (n - 1) (length (lines (drop (nextPlace log p) log)))) = omega arith in
-      ap (λ (k : ℕ). steps k log w) z
-      ∙ ap (steps (min (n - 1) (length (lines (drop (nextPlace log p) log)))) log) (onward-line log w short place (λ q. omega arith))
-      ∙ ap (λ (k : ℕ). steps (min (n - 1) (length (lines (drop k log)))) log (going log w)) (sym (going-next log w))
+      ap (λ (k : ℕ). steps (stepAt log) k w) z
+      ∙ ap (steps (stepAt log) (min (n - 1) (length (lines (drop (nextPlace log p) log))))) (onward-line log w (λ q. omega arith))
+      ∙ ap (λ (k : ℕ). steps (stepAt log) (min (n - 1) (length (lines (drop k log)))) (going log w)) (sym (going-next log w))
 
 -- the loop's invariant
 pub record Goes (log : List ℕ) (place allowance : ℕ) (g : Gatherer) (c : Counts) (a : Gatherer) : Type 0 where
@@ -148,7 +147,7 @@ module _ (log : List ℕ) (place allowance : ℕ) (g : Gatherer) (c : Counts) (a
         within = omega arith;
         rows = r;
         same = now' .same
-            ∙ go-more log (allowance - c .lines) w (now' .short) (now' .fit .place) pos in'
+            ∙ go-more log (allowance - c .lines) w pos in'
             ∙ ap (goOn log (allowance - c .lines - 1)) (sym e)
             ∙ ap (λ (j : ℕ). goOn log j (record { counts = c'; gatherer = a' })) k;
       }

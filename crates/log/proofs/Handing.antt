@@ -1,4 +1,4 @@
--- From place 0 and a fresh gatherer, steps feed the gatherer the log's lines one by one: so a step answers the next line, and hands out a group
+-- From place 0 and a fresh gatherer, and for a log of any length, steps feed the gatherer the log's lines one by one: so a step answers the next line, and hands out a group
 -- exactly where the definition says. Assumes nothing.
 use Prim.Native.Nat.{ℕ, zero, suc, _-_, _≤_, _<_}
 use native.Mathlib.Omega.{arith}
@@ -20,11 +20,11 @@ use Rattle.fed.specs.Line.{Said, blank, saidOf, saidAll, gsvOf, Gatherer, gathe
 use Rattle.fed.specs.Seen.{givenBy, givenAt}
 use Rattle.fed.specs.Fed.{gathered, fedAt}
 use Rattle.fed.proofs.Handing.{hands-list}
-use Rattle.log.specs.Step.{longest, Stepped, line}
+use Rattle.log.specs.Step.{Stepped, line, stepAt}
 use Rattle.log.specs.Walk.{Going, begin, steps}
 use Rattle.log.specs.Told.{says, told, stepAfter, lineIn, gsvIn, Gives}
 use Rattle.log.proofs.Places.{place-within, place-zero}
-use Rattle.log.proofs.OneStep.{at-line, good-place}
+use Rattle.log.proofs.OneStep.{at-line}
 use Rattle.log.proofs.Sums.{upto}
 use Rattle.log.proofs.Goes.{going, going-next, onward-line}
 
@@ -34,7 +34,7 @@ record Came (log : List ℕ) (w : Going) (i : ℕ) (v : Going) : Type 0 where
   left : lines (drop (v .counts .next) log) ≡ drop i (lines (drop (w .counts .next) log))
   holding : v .gatherer ≡ gathered (w .gatherer) (take i (saidAll (lines (drop (w .counts .next) log))))
 
-module _ (log : List ℕ) (short : length log ≤ longest) where
+module _ (log : List ℕ) where
   -- where a line is left, the log has not ended
   not-ended : (p : ℕ) → 0 < length (lines (drop p log)) → p < length log
   not-ended p h = ⊎-elim (λ k. k) (λ k. let e = ap length (lines-end log p k) in absurd (omega arith)) (upto p (length log))
@@ -51,7 +51,7 @@ module _ (log : List ℕ) (short : length log ≤ longest) where
             ∙ sym (ap (λ (ls : List (List ℕ)). gathered (w .gatherer) (take (suc i) (saidAll ls))) (lines-here log p h));
       }
 
-  came : (i : ℕ) (w : Going) → isPlace log (w .counts .next) ≡ true → i ≤ length (lines (drop (w .counts .next) log)) → Came log w i (steps i log w)
+  came : (i : ℕ) (w : Going) → isPlace log (w .counts .next) ≡ true → i ≤ length (lines (drop (w .counts .next) log)) → Came log w i (steps (stepAt log) i w)
   unfolding steps
   came zero w e h = record { place = e; left = refl; holding = refl }
   came (suc i) w e h =
@@ -60,24 +60,24 @@ module _ (log : List ℕ) (short : length log ≤ longest) where
       let e' : isPlace log (going log w .counts .next) ≡ true = ap (isPlace log) (going-next log w) ∙ next-place log p (place-within log p e) in
       let n : length (lines (drop (going log w .counts .next) log)) ≡ length (lines (drop (nextPlace log p) log)) = ap (λ (k : ℕ). length (lines (drop k log))) (going-next log w) in
       let l : length (lines (drop p log)) ≡ suc (length (lines (drop (nextPlace log p) log))) = ap length (lines-here log p in') in
-      subst (λ (v : Going). Came log w (suc i) (steps i log v)) (sym (onward-line log w short e (λ q. omega arith)))
-      (one-further i w (steps i log (going log w)) in' (came i (going log w) e' (omega arith)))
+      subst (λ (v : Going). Came log w (suc i) (steps (stepAt log) i v)) (sym (onward-line log w (λ q. omega arith)))
+      (one-further i w (steps (stepAt log) i (going log w)) in' (came i (going log w) e' (omega arith)))
 
-module _ (log : List ℕ) (short : length log ≤ longest) (i : ℕ) (within : i < length (says log)) where
+module _ (log : List ℕ) (i : ℕ) (within : i < length (says log)) where
   -- where the walk has come
   abbrev there : Going
-  there = steps i log (begin 0 freshTable)
+  there = steps (stepAt log) i (begin 0 freshTable)
 
   enough : i < length (lines log)
   enough = omega (arith, length-map (lines log) saidOf)
 
   reached : Came log (begin 0 freshTable) i there
-  reached = came log short i (begin 0 freshTable) (place-zero log 0 refl) (omega (arith, enough))
+  reached = came log i (begin 0 freshTable) (place-zero log 0 refl) (omega (arith, enough))
 
   still : there .counts .next < length log
   still =
       let e : length (lines (drop (there .counts .next) log)) ≡ length (lines log) - i = ap length (reached .left) ∙ length-drop i (lines log) in
-      not-ended log short (there .counts .next) (omega (arith, enough))
+      not-ended log (there .counts .next) (omega (arith, enough))
 
   -- the line there is the i-th
   its-line : lineAt log (there .counts .next) ≡ getD (lines log) i []
@@ -96,7 +96,7 @@ module _ (log : List ℕ) (short : length log ≤ longest) (i : ℕ) (within : i
       }
   by-step =
       let s = still in
-      sym (at-line log (there .counts .next) (there .gatherer) (λ q. omega arith) ∙ good-place log (there .counts .next) (there .gatherer) short (reached .place))
+      sym (at-line log (there .counts .next) (there .gatherer) (λ q. omega arith))
 
   -- THE THEOREM: it answers the line behind the i lines that the steps before it answered
   pub says-line : lineIn (stepAfter i log .answer) ≡ some (getD (says log) i blank)

@@ -30,7 +30,7 @@ use Rattle.lines.specs.Lines.{stretches, trim, lines, Whole}
 use Rattle.lines.specs.Places.{isPlace, stretch, rest, lineAt, nextPlace}
 use Rattle.gather.specs.declared.line.Outcome.the-variants.{Nothing}
 use Rattle.fed.specs.Line.{read}
-use Rattle.log.specs.Step.{stepAt, stepOf}
+use Rattle.log.specs.Step.{stepAt}
 use Rattle.log.specs.Walk.{steps}
 use Rattle.log.specs.Told.{says, told, stepAfter, lineIn, Gives}
 use Rattle.log.proofs.Handing.{hands-out}
@@ -96,20 +96,20 @@ log-four = refl
 
 -- THE FIRST CLAUSE: the step hands out the group, so the definition does
 gives-first : Gives (stepAfter 1 log) (group 1 2)
-unfolding lines stretches trim answer dispatch formatterOf frame sized sentence sentenceType checksumField taken known hex digit checksumFrom types alike listed follow utf8Step after ascii until char oneOf among letterOf _>>=_ pure opt alt orMiss number numberFrom rowOf gsvData entry counted cell closing many skip takeWhile1 eof allConsuming oneOf3 isPlace stretch rest lineAt nextPlace steps stepAt stepOf more digitsOf digitsFor entryText
+unfolding lines stretches trim answer dispatch formatterOf frame sized sentence sentenceType checksumField taken known hex digit checksumFrom types alike listed follow utf8Step after ascii until char oneOf among letterOf _>>=_ pure opt alt orMiss number numberFrom rowOf gsvData entry counted cell closing many skip takeWhile1 eof allConsuming oneOf3 isPlace stretch rest lineAt nextPlace steps stepAt more digitsOf digitsFor entryText
 gives-first = refl
 
 first-handed : HandedOut (told log) 1 (group 1 2)
-first-handed = hands-out log (omega arith) 1 (omega (arith, log-four)) (group 1 2) .0 gives-first
+first-handed = hands-out log 1 (omega (arith, log-four)) (group 1 2) .0 gives-first
 
 -- THE SECOND CLAUSE, whole lines replaced: the run that was to end there hands out nothing
 broken-off : stepAfter 1 damaged .gathered .handed ≡ Nothing
-unfolding lines stretches trim answer dispatch formatterOf frame sized sentence sentenceType checksumField taken known hex digit checksumFrom types alike listed follow utf8Step after ascii until char oneOf among letterOf _>>=_ pure opt alt orMiss number numberFrom rowOf gsvData entry counted cell closing many skip takeWhile1 eof allConsuming oneOf3 isPlace stretch rest lineAt nextPlace steps stepAt stepOf more digitsOf digitsFor entryText
+unfolding lines stretches trim answer dispatch formatterOf frame sized sentence sentenceType checksumField taken known hex digit checksumFrom types alike listed follow utf8Step after ascii until char oneOf among letterOf _>>=_ pure opt alt orMiss number numberFrom rowOf gsvData entry counted cell closing many skip takeWhile1 eof allConsuming oneOf3 isPlace stretch rest lineAt nextPlace steps stepAt more digitsOf digitsFor entryText
 broken-off = refl
 
 -- and from the system's next number 1 the groups are the same
 gives-later : Gives (stepAfter 3 log) (group 8 9)
-unfolding lines stretches trim answer dispatch formatterOf frame sized sentence sentenceType checksumField taken known hex digit checksumFrom types alike listed follow utf8Step after ascii until char oneOf among letterOf _>>=_ pure opt alt orMiss number numberFrom rowOf gsvData entry counted cell closing many skip takeWhile1 eof allConsuming oneOf3 isPlace stretch rest lineAt nextPlace steps stepAt stepOf more digitsOf digitsFor entryText
+unfolding lines stretches trim answer dispatch formatterOf frame sized sentence sentenceType checksumField taken known hex digit checksumFrom types alike listed follow utf8Step after ascii until char oneOf among letterOf _>>=_ pure opt alt orMiss number numberFrom rowOf gsvData entry counted cell closing many skip takeWhile1 eof allConsuming oneOf3 isPlace stretch rest lineAt nextPlace steps stepAt more digitsOf digitsFor entryText
 gives-later = refl
 
 abbrev anew : Gsv Satellite
@@ -128,22 +128,22 @@ damaged-index = omega (arith, begun-one, broken-two)
 later-handed : Gives (stepAfter 4 damaged) (group 8 9)
 later-handed =
     subst (λ (i : ℕ). Gives (stepAfter i damaged) (group 8 9)) damaged-index
-    (groups-after begun later ended broken begun-whole (inl ended-whole) (inl broken-whole) (omega arith) (omega arith) 0 anew anew-stands refl 1 (omega arith) (omega (arith, later-two)) (group 8 9) refl .0
+    (groups-after begun later ended broken begun-whole (inl ended-whole) (inl broken-whole) 0 anew anew-stands refl 1 (omega arith) (omega (arith, later-two)) (group 8 9) refl .0
     (subst (λ (i : ℕ). Gives (stepAfter i log) (group 8 9)) (sym log-index) gives-later))
 
 -- the lines outside keep their answers: the one before, and one after
 first-kept : lineIn (stepAfter 0 log .answer) ≡ lineIn (stepAfter 0 damaged .answer)
-first-kept = keeps-before begun later ended broken begun-whole (inl ended-whole) (inl broken-whole) (omega arith) (omega arith) 0 (omega (arith, begun-one))
+first-kept = keeps-before begun later ended broken begun-whole (inl ended-whole) (inl broken-whole) 0 (omega (arith, begun-one))
 
 last-kept : lineIn (stepAfter 3 log .answer) ≡ lineIn (stepAfter 4 damaged .answer)
 last-kept =
     ap (λ (i : ℕ). lineIn (stepAfter i log .answer)) (sym log-index)
-    ∙ keeps-after begun later ended broken begun-whole (inl ended-whole) (inl broken-whole) (omega arith) (omega arith) 1 (omega (arith, later-two))
+    ∙ keeps-after begun later ended broken begun-whole (inl ended-whole) (inl broken-whole) 1 (omega (arith, later-two))
     ∙ ap (λ (i : ℕ). lineIn (stepAfter i damaged .answer)) damaged-index
 
 -- at the log's end a line may lack its line feed, and be replaced by nothing
 end-kept : lineIn (stepAfter 0 (begun ++ (bytes "abc" ++ [])) .answer) ≡ lineIn (stepAfter 0 (begun ++ ([] ++ [])) .answer)
-end-kept = keeps-before begun [] (bytes "abc") [] begun-whole (inr refl) (inr refl) (omega arith) (omega arith) 0 (omega (arith, begun-one))
+end-kept = keeps-before begun [] (bytes "abc") [] begun-whole (inr refl) (inr refl) 0 (omega (arith, begun-one))
 
 -- THE THIRD CLAUSE, one byte: the A behind the type's comma becomes M
 abbrev fix : List ℕ
@@ -172,14 +172,14 @@ another : byte "M" ≡ getD (lineAt (bytes "$GPGSA,A,1,,,,*32\n\n") 0) 7 0 → �
 another e = omega (arith, e, seventh)
 
 abbrev reason : Refused
-reason = why fix (omega arith) 0 begins parts passes 7 (byte "M") (omega arith) (omega arith) another (λ e. omega arith) (λ e. omega arith)
+reason = why fix 0 begins parts passes 7 (byte "M") (omega arith) (omega arith) another (λ e. omega arith) (λ e. omega arith)
 
 byte-refused : lineIn (stepAfter 0 (set fix 7 (byte "M")) .answer) ≡ some (read (isRefused reason))
 unfolding lines stretches
-byte-refused = line-refused fix (omega arith) 0 begins parts passes 7 (byte "M") (omega arith) (omega arith) another (λ e. omega arith) (λ e. omega arith)
+byte-refused = line-refused fix 0 begins parts passes 7 (byte "M") (omega arith) (omega arith) another (λ e. omega arith) (λ e. omega arith)
 
 others-kept : lineIn (stepAfter 1 (set fix 7 (byte "M")) .answer) ≡ lineIn (stepAfter 1 fix .answer)
 unfolding lines stretches
 others-kept =
-    others-keep fix (omega arith) 0 begins parts passes 7 (byte "M") (omega arith) (omega arith) another (λ e. omega arith) (λ e. omega arith) 1 (omega (arith, fix-two))
+    others-keep fix 0 begins parts passes 7 (byte "M") (omega arith) (omega arith) another (λ e. omega arith) (λ e. omega arith) 1 (omega (arith, fix-two))
     (λ e. omega arith)

@@ -4,9 +4,10 @@ pub mod AtPlace
 pub mod Adds
 pub mod OneStep
 pub mod Goes
-pub mod Answers
 pub mod Sums
 pub mod Again
+pub mod Limit
+pub mod Answers
 pub mod WholeLog
 pub mod Handing
 pub mod Damage

@@ -1,11 +1,11 @@
--- A walk's totals are counts of the log's lines: each step counts the line that it answers. Assumes nothing.
+-- Totals are counts of the log's lines, whatever its length: each step counts the line that it answers. Assumes nothing.
 use Prim.Native.Nat.{ℕ, zero, suc, _+_, _-_, _≤_, _<_}
 use native.Mathlib.Omega.{arith}
-use mathlib.Core.Path.{_≡_, refl, ap, sym, _∙_, subst}
+use mathlib.Core.Path.{_≡_, refl, ap, sym, _∙_}
 use mathlib.Core.Logic.{_⊎_, inl, inr, ⊎-elim}
 use mathlib.Core.List.{List, []}
-use mathlib.Core.Bool.{Bool, true, false, cond}
-use borrow.Author.Tests.{ltb-true, ltb-false, le-ltb}
+use mathlib.Core.Bool.{Bool, true, false}
+use borrow.Author.Tests.{ltb-true, ltb-false}
 use lib.Dec.{ltb}
 use lib.ListN.{length, take, drop, length-drop, drop-of-length-le}
 use lib.Seq.{take-nil}
@@ -14,14 +14,10 @@ use Rattle.lines.specs.Places.{isPlace, rest, lineAt, nextPlace}
 use Rattle.lines.proofs.Next.{next-place, drop-next, lines-here, lines-end}
 use Rattle.fed.specs.Line.{Said, saidOf, saidAll, gsvOf, Gatherer, gathers, isBlank, isAccepted, isRefusal}
 use Rattle.fed.specs.Fed.{onceIf, isHanded, howMany, gathered, groupsOf}
-use Rattle.fed.proofs.Counts.{every-line}
 use Rattle.log.specs.declared.walk.Counts.{Counts}
-use Rattle.frame.specs.Refused.{logTooLong, badPlace}
-use Rattle.log.specs.Step.{longest, end, idle, stepOf}
-use Rattle.log.specs.Walk.{tallied, grouped, Going, begin, barred, went, Walked, gone, walkOf}
+use Rattle.log.specs.Walk.{tallied, grouped, Going, begin}
 use Rattle.log.specs.Totals.{behind, said, totals}
-use Rattle.log.proofs.Places.{place-within, place-end}
-use Rattle.log.proofs.OneStep.{at-end, good-place}
+use Rattle.log.proofs.Places.{place-within}
 use Rattle.log.proofs.Goes.{going, going-next, goOn, go-none, go-end, go-more}
 
 -- totals on top of what was counted before
@@ -132,7 +128,7 @@ upto m n = go (ltb m n) refl
     go true e = inl (ltb-true m n e)
     go false e = inr (ltb-false m n e)
 
-module _ (log : List ℕ) (short : length log ≤ longest) where
+module _ (log : List ℕ) where
   here-place : (p : ℕ) → p ≤ length log → p ≡ length log - length (drop p log)
   here-place p h = let e = length-drop p log in omega arith
 
@@ -148,17 +144,17 @@ module _ (log : List ℕ) (short : length log ≤ longest) where
       ∙ ap (λ (ss : List Said). onTop w ss (place log p n)) (sym none')
 
   -- one line more
-  one-line : (n : ℕ) (w : Going) → w .counts .next < length log → isPlace log (w .counts .next) ≡ true
+  one-line : (n : ℕ) (w : Going) → w .counts .next < length log
       → goOn log n (going log w) ≡ onTop (going log w) (said log (going log w .counts .next) n) (place log (going log w .counts .next) n)
       → goOn log (suc n) w ≡ onTop w (said log (w .counts .next) (suc n)) (place log (w .counts .next) (suc n))
-  one-line n w h e ih =
+  one-line n w h ih =
       let p = w .counts .next in
       let q = nextPlace log p in
       let s = saidOf (lineAt log p) in
       let z : suc n - 1 ≡ n = omega arith in
       let pos : 0 < suc n = omega arith in
       let h' : p ≤ length log = omega arith in
-      go-more log (suc n) w short e pos h
+      go-more log (suc n) w pos h
       ∙ ap (λ (k : ℕ). goOn log k (going log w)) z
       ∙ ih
       ∙ ap (λ (k : ℕ). onTop (going log w) (said log k n) (place log k n)) (going-next log w)
@@ -171,11 +167,11 @@ module _ (log : List ℕ) (short : length log ≤ longest) where
   on-top zero w e =
       go-none log zero w refl ∙ onTop-none w (length log - length (drop (w .counts .next) log)) (here-place (w .counts .next) (place-within log (w .counts .next) e))
   on-top (suc n) w e = ⊎-elim
-      (λ h. one-line n w h e (on-top n (going log w) (ap (isPlace log) (going-next log w) ∙ next-place log (w .counts .next) (place-within log (w .counts .next) e))))
+      (λ h. one-line n w h (on-top n (going log w) (ap (isPlace log) (going-next log w) ∙ next-place log (w .counts .next) (place-within log (w .counts .next) e))))
       (λ k. at-the-end (suc n) w (place-within log (w .counts .next) e) k)
       (upto (w .counts .next) (length log))
 
-  -- THE THEOREM: a walk's totals, next place and gatherer are those of the lines that it took
+  -- THE THEOREM: totals, next place and gatherer are those of the lines that were taken
   pub sums : (p n : ℕ) (g : Gatherer) → isPlace log p ≡ true → goOn log n (begin p g) ≡ totals log p n g
   unfolding totals
   sums p n g e =
@@ -193,39 +189,3 @@ module _ (log : List ℕ) (short : length log ≤ longest) where
         };
         gatherer = gathered g ss;
       })
-
--- THE THEOREM for a walk: where it is not refused, it answers the totals of the smaller of its allowance and the lines left, and its lines are the
--- sum of blank, accepted and refused
-module _ (log : List ℕ) (p n : ℕ) (g : Gatherer) where
-  pub walk-is : length log ≤ longest → isPlace log p ≡ true → walkOf log p n g ≡ gone (goOn log n (begin p g))
-  unfolding walkOf
-  walk-is short e = simp (le-ltb longest (length log) short, e)
-
-  pub walk-totals : length log ≤ longest → isPlace log p ≡ true → walkOf log p n g ≡ gone (totals log p n g)
-  walk-totals short e = walk-is short e ∙ ap gone (sums log short p n g e)
-
-  -- where it answers counts, neither the log nor the place was refused
-  pub not-barred : (c : Counts) → walkOf log p n g .answer ≡ went c → (length log ≤ longest) × (isPlace log p ≡ true)
-  unfolding walkOf
-  not-barred c = go (ltb longest (length log)) (isPlace log p) refl refl
-    where
-      go : (t u : Bool) → ltb longest (length log) ≡ t → isPlace log p ≡ u
-          → cond t (record { answer = barred (logTooLong (length log)); gatherer = g }) (cond u (gone (goOn log n (begin p g))) (record { answer = barred (badPlace p); gatherer = g })) .answer
-          ≡ went c
-          → (length log ≤ longest) × (isPlace log p ≡ true)
-      go true u et eu q = let z : _≡_ {A = ℕ} 0 1 = cc in absurd (omega arith)
-      go false true et eu q = (ltb-false longest (length log) et, eu)
-      go false false et eu q = let z : _≡_ {A = ℕ} 0 1 = cc in absurd (omega arith)
-
-  pub walk-lines : (c : Counts) → walkOf log p n g .answer ≡ went c → c .lines ≡ c .blank + c .accepted + c .refused
-  unfolding totals
-  walk-lines c e =
-      let (short, place) = not-barred c e in
-      let q : went (totals log p n g .counts) ≡ went c = ap (λ (w : Walked). w .answer) (sym (walk-totals short place)) ∙ e in
-      let z : totals log p n g .counts ≡ c = cc in
-      subst (λ (d : Counts). d .lines ≡ d .blank + d .accepted + d .refused) z (sym (every-line (said log p n)))
-
-  -- THE THEOREM: at the length a step answers End, and place and gatherer are unchanged
-  pub step-at-end : length log ≤ longest → stepOf log (length log) g ≡ idle (end (length log)) g
-  step-at-end short =
-      sym (at-end log (length log) g refl ∙ good-place log (length log) g short (place-end log (length log) refl))

@@ -24,7 +24,7 @@ use Rattle.log.specs.Walk.{Going, went, Walked, gone, walkOf}
 use Rattle.log.specs.Totals.{behind, said, totals}
 use Rattle.log.specs.Told.{says, told}
 use Rattle.log.proofs.Places.{place-zero}
-use Rattle.log.proofs.Sums.{walk-totals, not-barred}
+use Rattle.log.proofs.Limit.{walk-totals, not-barred}
 
 -- all lines of the log
 abbrev pub wholeOf : List ℕ → Gatherer → Going
@@ -84,7 +84,7 @@ module _ (log : List ℕ) where
 
     -- THE THEOREM: with such an allowance a walk takes every line
     pub whole-walk : length log ≤ longest → (g : Gatherer) → walkOf log 0 n g ≡ gone (wholeOf log g)
-    whole-walk short g = walk-totals log 0 n g short (place-zero log 0 refl) ∙ ap gone (all-totals g)
+    whole-walk short g = walk-totals log short 0 n g (place-zero log 0 refl) ∙ ap gone (all-totals g)
 
   -- and with as many lines as bytes, as `totals` walks
   pub whole-log : length log ≤ longest → (g : Gatherer) → walkOf log 0 (length log) g ≡ gone (wholeOf log g)

@@ -7,9 +7,9 @@ use Rattle.gsv.specs.Gsv.{Satellite, GsvSentence}
 use Rattle.groups.specs.Log.{Line, Handed}
 use Rattle.lines.specs.Lines.{lines}
 use Rattle.gather.specs.Table.{freshTable}
-use Rattle.fed.specs.Line.{Said, saidAll, gsvOf}
+use Rattle.fed.specs.Line.{Said, saidAll, gsvOf, Gatherer}
 use Rattle.fed.specs.Seen.{seenOf, givenBy}
-use Rattle.log.specs.Step.{Step, refused, end, line, Stepped, stepOf}
+use Rattle.log.specs.Step.{Step, refused, end, line, Stepped, stepAt}
 use Rattle.log.specs.Walk.{begin, steps}
 
 -- what each line is
@@ -20,10 +20,14 @@ abbrev pub told : List ℕ → List (Line Satellite)
 told log = seenOf (says log)
 
 -- the step after i steps, "place 0 and a fresh gatherer" before the first
+abbrev pub after : (ℕ → Gatherer → Stepped) → ℕ → Stepped
+after step i =
+    let w = steps step i (begin 0 freshTable) in
+    step (w .counts .next) (w .gatherer)
+
+-- of a log of any length
 abbrev pub stepAfter : ℕ → List ℕ → Stepped
-stepAfter i log =
-    let w = steps i log (begin 0 freshTable) in
-    stepOf log (w .counts .next) (w .gatherer)
+stepAfter i log = after (stepAt log) i
 
 -- the line that a step answers
 abbrev pub lineIn : Step → Option Said

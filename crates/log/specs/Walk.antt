@@ -9,7 +9,7 @@ use Rattle.lines.specs.Lines.{lines}
 use Rattle.lines.specs.Places.{isPlace}
 use Rattle.fed.specs.Line.{Said, isBlank, isAccepted, isRefusal, Gatherer, Gathered}
 use Rattle.fed.specs.Fed.{onceIf, isHanded}
-use Rattle.log.specs.Step.{longest, Step, refused, end, line, stepOf}
+use Rattle.log.specs.Step.{longest, Step, refused, end, line, Stepped, stepOf}
 use Rattle.log.specs.declared.walk.Counts.{Counts}
 
 abbrev pub tallied : Counts → Said → ℕ → Counts
@@ -47,14 +47,15 @@ counted w a (line said next) = record { counts = grouped (tallied (w .counts) sa
 counted w a (end p) = w
 counted w a (refused r) = w
 
-abbrev pub onward : List ℕ → Going → Going
-onward log w =
-    let s = stepOf log (w .counts .next) (w .gatherer) in
+-- on by one step, whatever answers it
+abbrev pub onward : (ℕ → Gatherer → Stepped) → Going → Going
+onward step w =
+    let s = step (w .counts .next) (w .gatherer) in
     counted w (s .gathered) (s .answer)
 
-unfoldable pub steps : ℕ → List ℕ → Going → Going
-steps zero log w = w
-steps (suc k) log w = steps k log (onward log w)
+unfoldable pub steps : (ℕ → Gatherer → Stepped) → ℕ → Going → Going
+steps step zero w = w
+steps step (suc k) w = steps step k (onward step w)
 
 -- before its first step
 abbrev pub begin : ℕ → Gatherer → Going
@@ -76,5 +77,5 @@ gone w = record { answer = went (w .counts); gatherer = w .gatherer }
 unfoldable pub walkOf : List ℕ → ℕ → ℕ → Gatherer → Walked
 walkOf log p allowance g =
     cond (ltb longest (length log)) (record { answer = barred (logTooLong (length log)); gatherer = g })
-    (cond (isPlace log p) (gone (steps (min allowance (length (lines (drop p log)))) log (begin p g)))
+    (cond (isPlace log p) (gone (steps (stepOf log) (min allowance (length (lines (drop p log)))) (begin p g)))
     (record { answer = barred (badPlace p); gatherer = g }))

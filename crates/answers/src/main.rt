@@ -3,6 +3,11 @@
 use libc::STDIN_FILENO;
 use libc::STDOUT_FILENO;
 
+// How many words an answer has, and how many bytes these are.
+const WORDS: u32 = 40;
+
+const BYTES: usize = 320;
+
 // More frames than any run has: a program must end.
 const FRAMES: u64 = 4000000000;
 
@@ -29,7 +34,7 @@ fn put_word(bytes: &mut [u8], i: u32, word: u64) {
 // The words as bytes.
 fn encode(words: &[u64], bytes: &mut [u8]) {
     let mut i: u32 = 0;
-    while i < 40 {
+    while i < WORDS {
         let k = i as usize;
         if words.len() <= k {
             return;
@@ -42,8 +47,8 @@ fn encode(words: &[u64], bytes: &mut [u8]) {
 
 // Answers one line; false where standard output takes no more.
 fn answer(line: &[u8]) -> bool {
-    let mut words = [0u64; 40];
-    let mut bytes = [0u8; 320];
+    let mut words = [0u64; WORDS as usize];
+    let mut bytes = [0u8; BYTES];
     capi::nmea_answer(line, &mut words);
     encode(&words, &mut bytes);
     io::write_all(STDOUT_FILENO, &bytes)

@@ -17,7 +17,7 @@ use Rattle.gather.specs.Table.{freshTable, rowOf}
 use Rattle.gather.specs.declared.line.Outcome.{Outcome}
 use Rattle.gather.specs.declared.line.Outcome.the-variants.{NoRow, Nothing, Waiting, Complete}
 use Rattle.gather.proofs.Quick.{sats-long}
-use Rattle.fed.specs.Line.{blank, saidOf, saidAll, gsvOf, Gathered, gathers}
+use Rattle.fed.specs.Line.{blank, saidOf, saidAll, acceptedGsv, Gathered, gathers}
 use Rattle.fed.specs.Fed.{gathered}
 use Rattle.fed.specs.Seen.{seenOf, handedIn, givenBy, givenAt}
 use Rattle.fed.proofs.Accepted.{some-same}
@@ -52,7 +52,7 @@ called t (l ∷ ls) = called (gathers t (gsvIn (answer l)) .gatherer) ls
 called-is : (t : List ℕ) (ls : List (List ℕ)) → called t ls ≡ gathered t (saidAll ls)
 called-is t [] = refl
 called-is t (l ∷ ls) =
-    ap (λ (x : Option GsvSentence). called (gathers t x .gatherer) ls) (blank-or-read l) ∙ called-is (gathers t (gsvOf (saidOf l)) .gatherer) ls
+    ap (λ (x : Option GsvSentence). called (gathers t x .gatherer) ls) (blank-or-read l) ∙ called-is (gathers t (acceptedGsv (saidOf l)) .gatherer) ls
 
 module _ (ls : List (List ℕ)) (i : ℕ) where
   -- the line at i, and what its call does behind the calls before it
@@ -62,8 +62,8 @@ module _ (ls : List (List ℕ)) (i : ℕ) where
   abbrev pub itsCall : Gathered
   itsCall = gathers (called freshTable (take i ls)) its
 
-  its-said : its ≡ gsvOf (getD (saidAll ls) i blank)
-  its-said = blank-or-read (getD ls i []) ∙ ap gsvOf (sym (List·getD-map saidOf ls i []))
+  its-said : its ≡ acceptedGsv (getD (saidAll ls) i blank)
+  its-said = blank-or-read (getD ls i []) ∙ ap acceptedGsv (sym (List·getD-map saidOf ls i []))
 
   table-is : called freshTable (take i ls) ≡ gathered freshTable (take i (saidAll ls))
   table-is = called-is freshTable (take i ls) ∙ ap (gathered freshTable) (map-take saidOf i ls)

@@ -13,7 +13,7 @@ use Rattle.gather.specs.Words.{cellCount, satsFrom}
 use Rattle.gather.specs.Table.{tableWords, freshTable, rowOf}
 use Rattle.gather.specs.declared.line.Outcome.{Outcome}
 use Rattle.gather.specs.declared.line.Outcome.the-variants.{NoRow, Nothing, Waiting, Complete}
-use Rattle.fed.specs.Line.{read, gsvOf, Gathered, gathers}
+use Rattle.fed.specs.Line.{read, acceptedGsv, Gathered, gathers}
 use Rattle.words.specs.Part.{zeros}
 use Rattle.words.specs.Gsv.{entryWords}
 use Rattle.words.specs.Words.{wordCount, words}
@@ -37,7 +37,7 @@ lineCode none a = 0
 lineCode (some s) a = code (a .handed) (keyOf s)
 
 abbrev pub gsvIn : Answer → Option GsvSentence
-gsvIn a = gsvOf (read a)
+gsvIn a = acceptedGsv (read a)
 
 -- the table after such a line, and what is said
 pub record Taken (x : Option GsvSentence) (t t′ : List ℕ) (r : ℕ) : Type 0 where

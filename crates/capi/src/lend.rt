@@ -17,11 +17,7 @@ use crate::UNDONE;
 use gather::lent;
 use gather::line::Outcome;
 use sentence::Record;
-use words::AZIMUTH;
-use words::ELEVATION;
 use words::ENTRY_WORDS;
-use words::SATELLITE;
-use words::SIGNAL;
 use words::WORDS;
 
 // Where in the words of a row that is read its system stands, n, the number waited for, the in-view count, the count of entries, and an
@@ -109,7 +105,7 @@ pub extern "C" fn nmea_gather(line: &[u8], out: &mut [u64], table: &mut [u32]) -
         return UNDONE;
     }
     let p = sentence::parse_bytes(line);
-    crate::put(&mut *out, p);
+    crate::put_answer(&mut *out, p);
     let answer = p.answer;
     gather_record(answer, &mut *table)
 }
@@ -135,15 +131,15 @@ fn put_entry(out: &mut [u64], row: &[u32], i: usize)
 {
     let at = lent::HEAD + i * lent::CELL;
     let id = row[at];
-    let elevation = row[at + 1];
-    let azimuth = row[at + 2];
-    let signal = row[at + 3];
+    let elevation = row[at + lent::ELEVATION];
+    let azimuth = row[at + lent::AZIMUTH];
+    let signal = row[at + lent::SIGNAL];
     let to = ENTRIES + i * ENTRY_WORDS;
     out[to] = 1;
-    out[to + SATELLITE] = id as u64;
-    put_option(&mut *out, to + ELEVATION, elevation);
-    put_option(&mut *out, to + AZIMUTH, azimuth);
-    put_option(&mut *out, to + SIGNAL, signal);
+    out[to + words::SATELLITE] = id as u64;
+    put_option(&mut *out, to + words::ELEVATION, elevation);
+    put_option(&mut *out, to + words::AZIMUTH, azimuth);
+    put_option(&mut *out, to + words::SIGNAL, signal);
 }
 
 // A row's system, n, the number waited for, in view and count.

@@ -32,7 +32,7 @@ pub extern "C" fn nmea_refusal(line: &[u8]) -> u32
 }
 
 // The words of an answer, put into a buffer that has room for them.
-fn put(out: &mut [u64], p: ParseResult)
+fn put_answer(out: &mut [u64], p: ParseResult)
     ensures { λ _. ⌜ now (out .exit) ≡ into (recordWords (p .satellites) (p .count) (p .answer)) (now (out .entry)) ⌝ }
 {
     let cells = p.satellites;
@@ -68,6 +68,6 @@ pub extern "C" fn nmea_answer(line: &[u8], out: &mut [u64]) -> u32
         return UNDONE;
     }
     let p = sentence::parse_bytes(line);
-    put(out, p);
+    put_answer(out, p);
     DONE
 }

@@ -16,9 +16,9 @@ use Rattle.text.specs.Number.{leadingDigits, afterDigits, valueFrom, onlyDigits
 use Rattle.decimal.specs.Decimal.{Limits, Decimal, withoutSign, text, fromComma, fraction, inLimits, within, plain, orNumber, decimal}
 use Rattle.text.specs.Placed.{Reads}
 use Rattle.text.proofs.Places.{took}
-use Rattle.decimal.specs.Answer.{found}
-use Rattle.decimal.specs.declared.Found.{Found}
-use Rattle.decimal.specs.declared.Found.the-variants.{Is}
+use Rattle.decimal.specs.Answer.{decimalAt}
+use Rattle.decimal.specs.declared.DecimalAt.{DecimalAt}
+use Rattle.decimal.specs.declared.DecimalAt.the-variants.{Is}
 use Rattle.decimal.proofs.Power.{under, sum-power}
 use Rattle.decimal.proofs.Decimals.{value-lt}
 
@@ -103,6 +103,6 @@ bounded lim l {d} {m} e = by (eqb (length (text l)) 0) e
     by false e = plainly (plain lim (text l)) refl e
 
 -- the same of the code's answer
-pub held : {s : List ℕ} {at : ℕ} (lim : Limits) {r : Found} {n k p : ℕ} → Reads s at (decimal lim) (found r) → r ≡ Is n k p
+pub held : {s : List ℕ} {at : ℕ} (lim : Limits) {r : DecimalAt} {n k p : ℕ} → Reads s at (decimal lim) (decimalAt r) → r ≡ Is n k p
     → Bounded lim (withoutSign n k)
-held lim t e = bounded lim _ (took t (ap found e) .reads)
+held lim t e = bounded lim _ (took t (ap decimalAt e) .reads)

@@ -7,8 +7,8 @@ use Rattle.decimal.specs.Code.{Run}
 use Rattle.decimal.specs.Places.{Short, Long}
 use Rattle.decimal.specs.declared.Ran.{Ran}
 use Rattle.decimal.specs.declared.Ran.the-variants.{Over, Is as ARun}
-use Rattle.decimal.specs.declared.Found.{Found}
-use Rattle.decimal.specs.declared.Found.the-variants.{Absent as NoDecimal, Is as ADecimal, Number as NotDecimal}
+use Rattle.decimal.specs.declared.DecimalAt.{DecimalAt}
+use Rattle.decimal.specs.declared.DecimalAt.the-variants.{Absent as NoDecimal, Is as ADecimal, Number as NotDecimal}
 use Rattle.decimal.specs.declared.ShortDecimal.{ShortDecimal}
 use Rattle.decimal.specs.declared.ShortAt.{ShortAt}
 use Rattle.decimal.specs.declared.ShortAt.the-variants.{Absent as NoShort, Is as AShort, Number as NotShort}
@@ -20,10 +20,10 @@ abbrev pub ran : Ran → Placed Run
 ran Over = refused Number
 ran (ARun v n p) = upto (record { value = v; count = n }) p
 
-abbrev pub found : Found → Placed (Option Decimal)
-found NotDecimal = refused Number
-found (NoDecimal p) = upto none p
-found (ADecimal n k p) = upto (some (withoutSign n k)) p
+abbrev pub decimalAt : DecimalAt → Placed (Option Decimal)
+decimalAt NotDecimal = refused Number
+decimalAt (NoDecimal p) = upto none p
+decimalAt (ADecimal n k p) = upto (some (withoutSign n k)) p
 
 abbrev pub aShort : ShortDecimal → Short
 aShort d = record { whole = d .whole; decimals = d .decimals; value = d .value }

@@ -10,7 +10,7 @@ ghost use Rattle.decimal.specs.Decimal.{decimal, limits};
 ghost use Rattle.decimal.specs.Code.{run, atEnd};
 ghost use Rattle.decimal.specs.Places.{shortDecimal, longDecimal};
 ghost use Rattle.decimal.specs.Bits.{bitsOf};
-ghost use Rattle.decimal.specs.Answer.{ran, found, shortAt, longAt};
+ghost use Rattle.decimal.specs.Answer.{ran, decimalAt, shortAt, longAt};
 use text::Next;
 
 fn wide(x: u32) -> u64
@@ -24,6 +24,16 @@ fn least(a: u32, b: u32) -> u32
 {
     if a < b { a } else { b }
 }
+
+// The most decimals of a decimal, and so the highest power of ten.
+const DECIMALS: u32 = 9;
+
+// The most digits of a short decimal; of a long one, in all and before the point.
+const SHORT: u32 = 7;
+
+const LONG: u32 = 12;
+
+const LONG_BEFORE: u32 = 3;
 
 // Ten to the power `k`: one, or ten times the power below.
 fn tens(k: u32) -> u64
@@ -40,7 +50,7 @@ fn tens(k: u32) -> u64
 pub fn pow10(k: u32) -> u64
     ensures { λ r. ⌜ r ≡ 10 ^ min k 9 ⌝ }
 {
-    tens(least(k, 9))
+    tens(least(k, DECIMALS))
 }
 
 // A run of digits: the number it writes, its count of digits, the next place; or more digits than allowed.
@@ -84,43 +94,43 @@ fn ends(s: &[u8], at: usize) -> bool
 }
 
 // A decimal place: absent, the digits as one number with their count of decimals, or the refusal Number.
-pub enum Found {
+pub enum DecimalAt {
     Absent(usize),
     Is(u64, u32, usize),
     Number,
 }
 
 // A decimal place with its limits: the most digits in all, before the point and after it.
-fn decimal(s: &[u8], at: usize, all: u32, before: u32, after: u32) -> Found
+fn decimal(s: &[u8], at: usize, all: u32, before: u32, after: u32) -> DecimalAt
     requires { ⌜ (before ≤ all) × (all ≤ 19) ⌝ }
-    ensures { λ r. ⌜ Reads (now (s .entry)) at (decimal (limits all before after)) (found r) × (now (s .exit) ≡ now (s .entry)) ⌝ }
+    ensures { λ r. ⌜ Reads (now (s .entry)) at (decimal (limits all before after)) (decimalAt r) × (now (s .exit) ≡ now (s .entry)) ⌝ }
 {
     if ends(s, at) {
-        return Found::Absent(at);
+        return DecimalAt::Absent(at);
     }
     let Ran::Is(v, m, i) = run(s, at, 0, before) else {
-        return Found::Number;
+        return DecimalAt::Number;
     };
     if m == 0 {
-        return Found::Number;
+        return DecimalAt::Number;
     }
     if ends(s, i) {
-        return Found::Is(v, 0, i);
+        return DecimalAt::Is(v, 0, i);
     }
     let Next::At(j) = text::byte(s, i, b'.') else {
-        return Found::Number;
+        return DecimalAt::Number;
     };
     let most = least(after, all - m);
     let Ran::Is(w, k, e) = run(s, j, v, most) else {
-        return Found::Number;
+        return DecimalAt::Number;
     };
     if k == 0 {
-        return Found::Number;
+        return DecimalAt::Number;
     }
     if ends(s, e) {
-        return Found::Is(w, k, e);
+        return DecimalAt::Is(w, k, e);
     }
-    Found::Number
+    DecimalAt::Number
 }
 
 // A short decimal: its digits as a whole number, its count of decimals, and the nearest f32.
@@ -149,9 +159,9 @@ fn nearest_f32(size: u32, k: u32) -> f32
 pub fn short_decimal(s: &[u8], at: usize) -> ShortAt
     ensures { λ r. ⌜ Reads (now (s .entry)) at shortDecimal (shortAt r) × (now (s .exit) ≡ now (s .entry)) ⌝ }
 {
-    match decimal(s, at, 7, 7, 7) {
-        Found::Absent(p) => ShortAt::Absent(p),
-        Found::Is(n, k, p) => {
+    match decimal(s, at, SHORT, SHORT, SHORT) {
+        DecimalAt::Absent(p) => ShortAt::Absent(p),
+        DecimalAt::Is(n, k, p) => {
             let size = n as u32;
             let value = nearest_f32(size, k);
             let whole = size as i32;
@@ -164,7 +174,7 @@ pub fn short_decimal(s: &[u8], at: usize) -> ShortAt
                 p,
             )
         }
-        Found::Number => ShortAt::Number,
+        DecimalAt::Number => ShortAt::Number,
     }
 }
 
@@ -195,10 +205,10 @@ fn nearest_f64(size: u64, k: u32) -> f64
 pub fn long_decimal(s: &[u8], at: usize) -> LongAt
     ensures { λ r. ⌜ Reads (now (s .entry)) at longDecimal (longAt r) × (now (s .exit) ≡ now (s .entry)) ⌝ }
 {
-    match decimal(s, at, 12, 3, 9) {
-        Found::Absent(p) => LongAt::Absent(p),
-        Found::Is(n, k, p) => {
-            let billionths = n * pow10(9 - k);
+    match decimal(s, at, LONG, LONG_BEFORE, DECIMALS) {
+        DecimalAt::Absent(p) => LongAt::Absent(p),
+        DecimalAt::Is(n, k, p) => {
+            let billionths = n * pow10(DECIMALS - k);
             let value = nearest_f64(n, k);
             LongAt::Is(
                 LongDecimal {
@@ -210,7 +220,7 @@ pub fn long_decimal(s: &[u8], at: usize) -> LongAt
                 p,
             )
         }
-        Found::Number => LongAt::Number,
+        DecimalAt::Number => LongAt::Number,
     }
 }
 

@@ -5,16 +5,16 @@ use mathlib.Core.List.{List, [], _∷_}
 use mathlib.Core.Option.{some, Option·none-ne-some}
 use Rattle.gsv.specs.Gsv.{GsvSentence}
 use Rattle.answer.specs.Sentence.{Answer, isRmc, isGsa, isGsv, isOther, isRefused, answer}
-use Rattle.fed.specs.Line.{read, saidOf, gsvOf}
+use Rattle.fed.specs.Line.{read, saidOf, acceptedGsv}
 
 pub some-same : {A : Type 0} {x y : A} → some x ≡ some y → x ≡ y
 some-same e = cc
 
-pub accepted-as : (l : List ℕ) (s : GsvSentence) → gsvOf (saidOf l) ≡ some s → answer l ≡ isGsv s
+pub accepted-as : (l : List ℕ) (s : GsvSentence) → acceptedGsv (saidOf l) ≡ some s → answer l ≡ isGsv s
 accepted-as [] s e = absurd (Option·none-ne-some _ e)
 accepted-as (b ∷ l) s e = go (answer (b ∷ l)) refl e
   where
-    go : (a : Answer) → answer (b ∷ l) ≡ a → gsvOf (read a) ≡ some s → answer (b ∷ l) ≡ isGsv s
+    go : (a : Answer) → answer (b ∷ l) ≡ a → acceptedGsv (read a) ≡ some s → answer (b ∷ l) ≡ isGsv s
     go (isRmc r) q e = absurd (Option·none-ne-some _ e)
     go (isGsa g) q e = absurd (Option·none-ne-some _ e)
     go (isGsv t) q e = q ∙ ap isGsv (some-same e)

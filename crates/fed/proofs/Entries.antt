@@ -14,17 +14,17 @@ use Rattle.gsv.specs.Gsv.{Satellite, GsvSentence}
 use Rattle.gsv.proofs.Present.{at-most-four}
 use Rattle.rows.specs.Key.{keyOf}
 use Rattle.rows.specs.Line.{lineOf}
-use Rattle.fed.specs.Line.{Said, gsvOf}
+use Rattle.fed.specs.Line.{LogLine, acceptedGsv}
 use Rattle.fed.specs.Seen.{seen, seenOf}
 
 abbrev Four : Gsv Satellite → Type 0
 Four g = length (g .sats) ≤ 4
 
 -- each accepted GSV line has at most four
-lines-four : (κ n : ℕ) (ss : List Said) → All Four (own κ (take n (seenOf ss)))
+lines-four : (κ n : ℕ) (ss : List LogLine) → All Four (own κ (take n (seenOf ss)))
 lines-four κ zero ss = tt
 lines-four κ (suc n) [] = tt
-lines-four κ (suc n) (s ∷ ss) = go (gsvOf s) (lines-four κ n ss)
+lines-four κ (suc n) (s ∷ ss) = go (acceptedGsv s) (lines-four κ n ss)
   where
     kept : (b : Bool) (x : GsvSentence) (gs : List (Gsv Satellite)) → All Four gs → All Four (keep b (lineOf x) gs)
     kept true x gs a = (at-most-four (x .body), a)
@@ -43,7 +43,7 @@ entries-few [] h = omega arith
 entries-few (g ∷ gs) h = omega (arith, h .0, length-append (g .sats) (entries gs), entries-few gs (h .1))
 
 -- THE THEOREM
-pub at-most-36 : (ss : List Said) (i : ℕ) (h : Handed Satellite) → HandedOut (seenOf ss) i h → length (h .group .sats) ≤ 36
+pub at-most-36 : (ss : List LogLine) (i : ℕ) (h : Handed Satellite) → HandedOut (seenOf ss) i h → length (h .group .sats) ≤ 36
 at-most-36 ss i h d =
     let e = d .ends in
     let four : All Four (e .run) = last-four (e .earlier) (e .run) (subst (All Four) (e .lasts) (lines-four (h .key) (suc i) ss)) in

@@ -17,7 +17,7 @@ use Rattle.gather.specs.Put.{toldBy}
 use Rattle.gather.specs.Table.{tableWords, freshTable, tableOf, tableAfter}
 use Rattle.gather.specs.declared.line.Outcome.{Outcome}
 use Rattle.gather.proofs.Tables.{table-meaning, table-says, same-words, zero-fresh}
-use Rattle.fed.specs.Line.{saidOf, saidAll, gsvOf, Gatherer, gathers}
+use Rattle.fed.specs.Line.{saidOf, saidAll, acceptedGsv, Gatherer, gathers}
 use Rattle.fed.specs.Seen.{seen, seenOf}
 use Rattle.fed.specs.Fed.{onceIf, isHanded, groupsOf}
 use Rattle.fed.proofs.Accepted.{accepted-as}
@@ -32,9 +32,9 @@ once (some p) r k n rest e = omega arith
 pub groups-are : (t : Gatherer) (ls : List (List ℕ)) → length t ≡ tableWords
     → groupsOf t (saidAll ls) ≡ someCount (answers (tableOf t) (seenOf (saidAll ls)))
 groups-are t [] s = refl
-groups-are t (l ∷ ls) s = go (gsvOf (saidOf l)) refl (λ u su. groups-are u ls su)
+groups-are t (l ∷ ls) s = go (acceptedGsv (saidOf l)) refl (λ u su. groups-are u ls su)
   where
-    go : (f : Option GsvSentence) → gsvOf (saidOf l) ≡ f
+    go : (f : Option GsvSentence) → acceptedGsv (saidOf l) ≡ f
         → ((u : Gatherer) → length u ≡ tableWords → groupsOf u (saidAll ls) ≡ someCount (answers (tableOf u) (seenOf (saidAll ls))))
         → onceIf (isHanded (gathers t f .handed)) + groupsOf (gathers t f .gatherer) (saidAll ls)
         ≡ someCount (answer (tableOf t) (seen f) ∷ answers (next (tableOf t) (seen f)) (seenOf (saidAll ls)))

@@ -19,7 +19,7 @@ use Rattle.gather.specs.Put.{toldBy}
 use Rattle.gather.specs.Table.{tableWords, freshTable, rowOf, tableOf, tableAfter}
 use Rattle.gather.specs.declared.line.Outcome.{Outcome}
 use Rattle.gather.proofs.Tables.{table-meaning, table-says, table-group, same-words, zero-fresh}
-use Rattle.fed.specs.Line.{Said, blank, saidOf, saidAll, gsvOf, Gatherer, gathers}
+use Rattle.fed.specs.Line.{LogLine, blank, saidOf, saidAll, acceptedGsv, Gatherer, gathers}
 use Rattle.fed.specs.Seen.{seen, seeing, seenOf, handedIn, givenBy, givenAt}
 use Rattle.fed.specs.Fed.{gathered}
 use Rattle.fed.proofs.Accepted.{accepted-as}
@@ -28,9 +28,9 @@ use Rattle.fed.proofs.Accepted.{accepted-as}
 pub holds : (t : Gatherer) (ls : List (List ℕ)) → length t ≡ tableWords
     → (tableOf (gathered t (saidAll ls)) ≡ after (tableOf t) (seenOf (saidAll ls))) × (length (gathered t (saidAll ls)) ≡ tableWords)
 holds t [] s = (refl, s)
-holds t (l ∷ ls) s = go (gsvOf (saidOf l)) refl (λ u su. holds u ls su)
+holds t (l ∷ ls) s = go (acceptedGsv (saidOf l)) refl (λ u su. holds u ls su)
   where
-    go : (f : Option GsvSentence) → gsvOf (saidOf l) ≡ f
+    go : (f : Option GsvSentence) → acceptedGsv (saidOf l) ≡ f
         → ((u : Gatherer) → length u ≡ tableWords
         → (tableOf (gathered u (saidAll ls)) ≡ after (tableOf u) (seenOf (saidAll ls))) × (length (gathered u (saidAll ls)) ≡ tableWords))
         → (tableOf (gathered (gathers t f .gatherer) (saidAll ls)) ≡ after (next (tableOf t) (seen f)) (seenOf (saidAll ls)))
@@ -48,7 +48,7 @@ gives-group κ t none none h = refl
 gives-group κ t none (some o) h = refl
 gives-group κ t (some p) r h = ap (λ (q : Group Satellite). some (record { key = κ; group = q })) (h p refl)
 
-pub gives : (t : Gatherer) (l : List ℕ) → length t ≡ tableWords → (f : Option GsvSentence) → gsvOf (saidOf l) ≡ f
+pub gives : (t : Gatherer) (l : List ℕ) → length t ≡ tableWords → (f : Option GsvSentence) → acceptedGsv (saidOf l) ≡ f
     → givenBy f (gathers t f) ≡ answer (tableOf t) (seen f)
 gives t l s none q = refl
 gives t l s (some x) q =
@@ -64,18 +64,18 @@ map-take f (suc i) [] = refl
 map-take f (suc i) (x ∷ l) = ap (λ (r : List _). f x ∷ r) (map-take f i l)
 
 -- the line at i, as the theory sees it, and those before it
-seen-at : (ss : List Said) (i : ℕ) → seen (gsvOf (getD ss i blank)) ≡ getD (seenOf ss) i other
+seen-at : (ss : List LogLine) (i : ℕ) → seen (acceptedGsv (getD ss i blank)) ≡ getD (seenOf ss) i other
 seen-at ss i = sym (List·getD-map seeing ss i blank)
 
-seen-before : (ss : List Said) (i : ℕ) → seenOf (take i ss) ≡ take i (seenOf ss)
+seen-before : (ss : List LogLine) (i : ℕ) → seenOf (take i ss) ≡ take i (seenOf ss)
 seen-before ss i = map-take seeing i ss
 
 module _ (ls : List (List ℕ)) (i : ℕ) where
-  abbrev ss : List Said
+  abbrev ss : List LogLine
   ss = saidAll ls
 
   abbrev its : Option GsvSentence
-  its = gsvOf (getD ss i blank)
+  its = acceptedGsv (getD ss i blank)
 
   abbrev table : Gatherer
   table = gathered freshTable (take i ss)
@@ -85,13 +85,13 @@ module _ (ls : List (List ℕ)) (i : ℕ) where
       let (e, q) = holds freshTable (take i ls) (length-replicate {A = ℕ} tableWords 0) in
       let a = map-take saidOf i ls in
       let b : seenOf (saidAll (take i ls)) ≡ take i (seenOf ss) = ap seenOf a ∙ seen-before ss i in (
-        sym (ap (λ (x : List Said). tableOf (gathered freshTable x)) a) ∙ e ∙ (λ j. after (zero-fresh j) (b j)),
-        subst (λ (x : List Said). length (gathered freshTable x) ≡ tableWords) a q,
+        sym (ap (λ (x : List LogLine). tableOf (gathered freshTable x)) a) ∙ e ∙ (λ j. after (zero-fresh j) (b j)),
+        subst (λ (x : List LogLine). length (gathered freshTable x) ≡ tableWords) a q,
       )
 
   its-answer : givenAt ss i ≡ getD (answers fresh (seenOf ss)) i none
   its-answer =
-      gives table (getD ls i []) (holding .1) its (ap gsvOf (sym (List·getD-map saidOf ls i [])))
+      gives table (getD ls i []) (holding .1) its (ap acceptedGsv (sym (List·getD-map saidOf ls i [])))
       ∙ (λ j. answer (holding .0 j) (seen-at ss i j))
       ∙ sym (answers-at fresh (seenOf ss) i)
 

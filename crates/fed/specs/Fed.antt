@@ -6,7 +6,7 @@ use lib.ListN.{take, getD}
 use Rattle.gather.specs.Table.{freshTable}
 use Rattle.gather.specs.declared.line.Outcome.{Outcome}
 use Rattle.gather.specs.declared.line.Outcome.the-variants.{NoRow, Nothing, Waiting, Complete}
-use Rattle.fed.specs.Line.{Said, blank, gsvOf, Gatherer, Gathered, gathers}
+use Rattle.fed.specs.Line.{LogLine, blank, acceptedGsv, Gatherer, Gathered, gathers}
 
 -- a Bool as the number of times that it is so
 abbrev pub onceIf : Bool → ℕ
@@ -14,18 +14,18 @@ onceIf true = 1
 onceIf false = 0
 
 -- how many of them pass a test
-abbrev pub howMany : (Said → Bool) → List Said → ℕ
+abbrev pub howMany : (LogLine → Bool) → List LogLine → ℕ
 howMany t [] = 0
 howMany t (s ∷ ss) = onceIf (t s) + howMany t ss
 
 -- the gatherer after some lines
-abbrev pub gathered : Gatherer → List Said → Gatherer
+abbrev pub gathered : Gatherer → List LogLine → Gatherer
 gathered g [] = g
-gathered g (s ∷ ss) = gathered (gathers g (gsvOf s) .gatherer) ss
+gathered g (s ∷ ss) = gathered (gathers g (acceptedGsv s) .gatherer) ss
 
 -- what the line at i does: "Demand 3 speaks of place 0 and a fresh gatherer", so to one that was fresh before the first line
-abbrev pub fedAt : List Said → ℕ → Gathered
-fedAt ss i = gathers (gathered freshTable (take i ss)) (gsvOf (getD ss i blank))
+abbrev pub fedAt : List LogLine → ℕ → Gathered
+fedAt ss i = gathers (gathered freshTable (take i ss)) (acceptedGsv (getD ss i blank))
 
 abbrev pub isHanded : Outcome → Bool
 isHanded NoRow = false
@@ -34,6 +34,6 @@ isHanded Waiting = false
 isHanded Complete = true
 
 -- how many of them hand out a group
-abbrev pub groupsOf : Gatherer → List Said → ℕ
+abbrev pub groupsOf : Gatherer → List LogLine → ℕ
 groupsOf g [] = 0
-groupsOf g (s ∷ ss) = onceIf (isHanded (gathers g (gsvOf s) .handed)) + groupsOf (gathers g (gsvOf s) .gatherer) ss
+groupsOf g (s ∷ ss) = onceIf (isHanded (gathers g (acceptedGsv s) .handed)) + groupsOf (gathers g (acceptedGsv s) .gatherer) ss

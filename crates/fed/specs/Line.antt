@@ -10,24 +10,24 @@ use Rattle.gather.specs.Table.{tableAfter, saidBy}
 use Rattle.gather.specs.declared.line.Outcome.{Outcome}
 use Rattle.gather.specs.declared.line.Outcome.the-variants.{Nothing}
 
-pub data Said : Type 0 where
-  blank : Said
-  read : Answer → Said
+pub data LogLine : Type 0 where
+  blank : LogLine
+  read : Answer → LogLine
 
 -- "a line then empty is blank"; what another says is the reader's to say
-abbrev pub saidOf : List ℕ → Said
+abbrev pub saidOf : List ℕ → LogLine
 saidOf [] = blank
 saidOf (b ∷ l) = read (answer (b ∷ l))
 
-abbrev pub saidAll : List (List ℕ) → List Said
+abbrev pub saidAll : List (List ℕ) → List LogLine
 saidAll ls = map saidOf ls
 
 -- "lines are blank, accepted or refused, each counted from the log"
-abbrev pub isBlank : Said → Bool
+abbrev pub isBlank : LogLine → Bool
 isBlank blank = true
 isBlank (read a) = false
 
-abbrev pub isRefusal : Said → Bool
+abbrev pub isRefusal : LogLine → Bool
 isRefusal blank = false
 isRefusal (read (isRmc r)) = false
 isRefusal (read (isGsa g)) = false
@@ -36,7 +36,7 @@ isRefusal (read (isOther k)) = false
 isRefusal (read (isRefused r)) = true
 
 -- "Other is accepted"
-abbrev pub isAccepted : Said → Bool
+abbrev pub isAccepted : LogLine → Bool
 isAccepted blank = false
 isAccepted (read (isRmc r)) = true
 isAccepted (read (isGsa g)) = true
@@ -45,13 +45,13 @@ isAccepted (read (isOther k)) = true
 isAccepted (read (isRefused r)) = false
 
 -- the accepted GSV sentence that a line is
-abbrev pub gsvOf : Said → Option GsvSentence
-gsvOf blank = none
-gsvOf (read (isRmc r)) = none
-gsvOf (read (isGsa g)) = none
-gsvOf (read (isGsv s)) = some s
-gsvOf (read (isOther k)) = none
-gsvOf (read (isRefused r)) = none
+abbrev pub acceptedGsv : LogLine → Option GsvSentence
+acceptedGsv blank = none
+acceptedGsv (read (isRmc r)) = none
+acceptedGsv (read (isGsa g)) = none
+acceptedGsv (read (isGsv s)) = some s
+acceptedGsv (read (isOther k)) = none
+acceptedGsv (read (isRefused r)) = none
 
 -- the gatherer is the words that are lent
 abbrev pub Gatherer : Type 0

@@ -11,17 +11,17 @@ use Rattle.gather.specs.Words.{groupOf}
 use Rattle.gather.specs.Table.{rowOf}
 use Rattle.gather.specs.declared.line.Outcome.{Outcome}
 use Rattle.gather.specs.declared.line.Outcome.the-variants.{NoRow, Nothing, Waiting, Complete}
-use Rattle.fed.specs.Line.{Said, blank, gsvOf, Gatherer, Gathered}
+use Rattle.fed.specs.Line.{LogLine, blank, acceptedGsv, Gatherer, Gathered}
 use Rattle.fed.specs.Fed.{fedAt}
 
 abbrev pub seen : Option GsvSentence → Line Satellite
 seen none = other
 seen (some s) = gsv (lineOf s)
 
-abbrev pub seeing : Said → Line Satellite
-seeing s = seen (gsvOf s)
+abbrev pub seeing : LogLine → Line Satellite
+seeing s = seen (acceptedGsv s)
 
-abbrev pub seenOf : List Said → List (Line Satellite)
+abbrev pub seenOf : List LogLine → List (Line Satellite)
 seenOf ss = map seeing ss
 
 -- what a line hands out: where it says that its row is complete, the words of that row are the group
@@ -35,5 +35,5 @@ abbrev pub givenBy : Option GsvSentence → Gathered → Option (Out Satellite)
 givenBy none a = none
 givenBy (some s) a = handedIn (a .handed) (keyOf s) (a .gatherer)
 
-abbrev pub givenAt : List Said → ℕ → Option (Out Satellite)
-givenAt ss i = givenBy (gsvOf (getD ss i blank)) (fedAt ss i)
+abbrev pub givenAt : List LogLine → ℕ → Option (Out Satellite)
+givenAt ss i = givenBy (acceptedGsv (getD ss i blank)) (fedAt ss i)

@@ -24,7 +24,7 @@ use Rattle.rows.proofs.Row.{row-exactly, stands-step}
 use Rattle.gather.specs.Words.{satsFrom, openOf, groupOf, stands, meant, flat}
 use Rattle.gather.specs.Put.{nextOf, written, rowAfter}
 use Rattle.gather.proofs.Cells.{below, above, inside, sats-same, sats-append, cells-back}
-use Rattle.gather.proofs.Runs.{Found, found, by-head, after-is, handed, waited}
+use Rattle.gather.proofs.Runs.{GoesOn, goes-on, by-head, after-is, handed, waited}
 
 -- a row that waits for no line means nothing
 pub none-at : (ws : List ℕ) → getD ws 1 0 ≡ 0 → meant ws ≡ none
@@ -106,8 +106,8 @@ module _ (ws l : List ℕ) (h : GsvSentence) (read : answer l ≡ isGsv h) (long
   each : AllReadable (g .sats)
   each = room l h read .each
 
-  finds : (es : List Satellite) → sofar (meant ws) g ≡ some es → Found ws (g .n) (g .number) (g .view) es
-  finds es e = found ws (g .n) (g .number) (g .view) es (by-head (meant ws) g ∙ e)
+  finds : (es : List Satellite) → sofar (meant ws) g ≡ some es → GoesOn ws (g .n) (g .number) (g .view) es
+  finds es e = goes-on ws (g .n) (g .number) (g .view) es (by-head (meant ws) g ∙ e)
 
   pub put-meaning : meant (rowAfter ws g) ≡ step (meant ws) g .row
   put-meaning = by (sofar (meant ws) g) refl

@@ -76,7 +76,7 @@ module _ (ws : List ℕ) (n k v : ℕ) where
         ap (λ (c : ℕ). record { runs = true; count = c }) (sym (sats-long 0 (getD ws 3 0) ws)) ∙ ap beforeOf (sym (answers true e))
 
   -- the entries before a line are few, its number is small, and the cells hold them
-  pub record Found (es : List Satellite) : Type 0 where
+  pub record GoesOn (es : List Satellite) : Type 0 where
     pub few : length es ≤ 32
     pub low : k ≤ 9
     pub read : satsFrom 0 (length es) ws ≡ es
@@ -101,16 +101,16 @@ module _ (ws : List ℕ) (n k v : ℕ) where
         omega (arith, p .open', p .high),
       )
 
-  pub found : (es : List Satellite) → sofar (meant ws) (headed n k v) ≡ some es → Found es
-  found es e = by-number (eqb k 1) refl e
+  pub goes-on : (es : List Satellite) → sofar (meant ws) (headed n k v) ≡ some es → GoesOn es
+  goes-on es e = by-number (eqb k 1) refl e
     where
-      by-range : (a : Bool) → k ≡ 1 → cond a (some []) none ≡ some es → Found es
+      by-range : (a : Bool) → k ≡ 1 → cond a (some []) none ≡ some es → GoesOn es
       by-range true one q =
           let z : [] ≡ es = cc in
           record { few = omega (arith, ap length z); low = omega arith; read = ap (λ (es : List Satellite). satsFrom 0 (length es) ws) (sym z) ∙ z }
       by-range false one q = absurd (Option·none-ne-some _ q)
 
-      by-row : (a : Bool) → onRow ws n k v ≡ a → cond a (some (openOf ws .sats)) none ≡ some es → Found es
+      by-row : (a : Bool) → onRow ws n k v ≡ a → cond a (some (openOf ws .sats)) none ≡ some es → GoesOn es
       by-row true h q =
           let (c, l) = good h in
           let z : openOf ws .sats ≡ es = cc in
@@ -118,7 +118,7 @@ module _ (ws : List ℕ) (n k v : ℕ) where
           record { few = omega arith; low = l; read = ap (λ (m : ℕ). satsFrom 0 m ws) long ∙ z }
       by-row false h q = absurd (Option·none-ne-some _ q)
 
-      by-number : (a : Bool) → eqb k 1 ≡ a → cond a (cond (leb 1 n && leb n 9) (some []) none) (onward (meant ws) (headed n k v)) ≡ some es → Found es
+      by-number : (a : Bool) → eqb k 1 ≡ a → cond a (cond (leb 1 n && leb n 9) (some []) none) (onward (meant ws) (headed n k v)) ≡ some es → GoesOn es
       by-number true h q = by-range (leb 1 n && leb n 9) (eqb-true _ _ h) q
       by-number false h q = by-row (onRow ws n k v) refl (sym on-is ∙ q)
 
@@ -171,7 +171,7 @@ module _ (ws : List ℕ) (g : Gsv Satellite) where
         by : (x : Option (List Satellite)) → sofar (meant ws) g ≡ x → b ≡ beforeOf x → Run b
         by none q f = absurd (false≢true (sym (ap (λ (b : Before). b .runs) f) ∙ t))
         by (some es) q f =
-            let h = found ws (g .n) (g .number) (g .view) es (by-head (meant ws) g ∙ q) in
+            let h = goes-on ws (g .n) (g .number) (g .view) es (by-head (meant ws) g ∙ q) in
             let c : b .count ≡ length es = ap (λ (b : Before). b .count) f in
             record { es = es; is = q; count = c; few = omega (arith, h .few); low = h .low }
 

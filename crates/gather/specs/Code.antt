@@ -11,8 +11,9 @@ use Rattle.groups.specs.Log.{Gsv}
 use Rattle.short.specs.Digits.{digitsOf}
 use Rattle.short.specs.Texts.{optText}
 use Rattle.gsv.specs.Gsv.{Satellite}
+use Rattle.pack.specs.Cut.{entryMax}
 use Rattle.rows.specs.Leave.{upto, entrySize}
-use Rattle.gather.specs.Words.{flat, stands}
+use Rattle.gather.specs.Words.{cellCount, cellAt, flat, stands}
 use Rattle.gather.specs.declared.lent.Pile.{Pile}
 use Rattle.gather.specs.declared.line.Before.{Before}
 
@@ -31,11 +32,11 @@ pub record Sized (s : Satellite) (r : ℕ) : Type 0 where
 -- greedy: an entry of w bytes goes to the line at hand if there is room, or else to a new one
 abbrev pub putOn : Pile → ℕ → ℕ → Pile
 putOn p w room =
-    cond (ltb (p .count) 4 && leb (p .used + w) room) (record { lines = p .lines; count = p .count + 1; used = p .used + w })
+    cond (ltb (p .count) entryMax && leb (p .used + w) room) (record { lines = p .lines; count = p .count + 1; used = p .used + w })
     (record { lines = p .lines + 1; count = 1; used = w })
 
 pub record Puts (p : Pile) (w : ℕ) : Type 0 where
-  pub lines : p .lines ≤ 36
+  pub lines : p .lines ≤ cellCount
   pub used : p .used ≤ 88
   pub few : w ≤ 44
 
@@ -60,5 +61,5 @@ beforeOf (some es) = record { runs = true; count = length es }
 
 -- the words of k entries and some more
 pub record Stored (ws ws′ : List ℕ) (k : ℕ) (es : List Satellite) (r : ℕ) : Type 0 where
-  pub words : ws′ ≡ sets ws (4 + k * 4) (flat es)
+  pub words : ws′ ≡ sets ws (cellAt k) (flat es)
   pub count : r ≡ k + length es

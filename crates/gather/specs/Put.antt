@@ -10,7 +10,7 @@ use lib.Seq.{sets}
 use Rattle.groups.specs.Log.{Gsv, Group}
 use Rattle.groups.specs.Step.{Open, Out, sofar, step}
 use Rattle.gsv.specs.Gsv.{Satellite}
-use Rattle.gather.specs.Words.{rowWords, flat, meant, stands}
+use Rattle.gather.specs.Words.{rowWords, cellAt, flat, meant, stands}
 use Rattle.gather.specs.declared.line.Before.{Before}
 use Rattle.gather.specs.declared.line.Outcome.{Outcome}
 use Rattle.gather.specs.declared.line.Outcome.the-variants.{NoRow, Nothing, Waiting, Complete}
@@ -23,7 +23,7 @@ nextOf g = cond (eqb (g .number) (g .n)) 0 (g .number + 1)
 abbrev pub written : List ℕ → Gsv Satellite → Option (List Satellite) → List ℕ
 written ws g none = set ws 1 0
 written ws g (some es) =
-    sets (sets ws (4 + length es * 4) (flat (g .sats))) 0
+    sets (sets ws (cellAt (length es)) (flat (g .sats))) 0
     (g .n ∷ nextOf g ∷ g .view ∷ (length es + length (g .sats)) ∷ [])
 
 -- words that are no row stand unchanged

@@ -16,6 +16,13 @@ pub const CELL: usize = 4;
 
 pub const CELLS: usize = 36;
 
+// Where in a cell, behind the satellite, its elevation stands, its azimuth and its signal.
+pub const ELEVATION: usize = 1;
+
+pub const AZIMUTH: usize = 2;
+
+pub const SIGNAL: usize = 3;
+
 // Where in it n stands, the number waited for, the in-view count and the count of entries.
 pub const N: usize = 0;
 
@@ -32,6 +39,9 @@ const ENTRIES: usize = 4;
 
 // What a line has left for its in-view count and its entries, and one more, since the last needs no comma.
 const SPACE: usize = 88;
+
+// The commas of an entry, one behind it counted.
+const COMMAS: usize = 4;
 
 // The word of what is absent.
 pub const ABSENT: u32 = 4294967295;
@@ -57,13 +67,13 @@ fn cell_within(row: &[u32], i: usize, ids: u32, max: u32) -> bool
     if ids < row[at] {
         return false;
     }
-    if !within(row[at + 1], max) {
+    if !within(row[at + ELEVATION], max) {
         return false;
     }
-    if !within(row[at + 2], max) {
+    if !within(row[at + AZIMUTH], max) {
         return false;
     }
-    within(row[at + 3], max)
+    within(row[at + SIGNAL], max)
 }
 
 fn all_within(row: &[u32], count: usize, ids: u32, max: u32) -> bool
@@ -109,10 +119,10 @@ fn size_at(row: &[u32], i: usize) -> usize
 {
     let at = HEAD + i * CELL;
     let a = digits(row[at]);
-    let b = opt_digits(row[at + 1]);
-    let c = opt_digits(row[at + 2]);
-    let d = opt_digits(row[at + 3]);
-    a + b + c + d + 4
+    let b = opt_digits(row[at + ELEVATION]);
+    let c = opt_digits(row[at + AZIMUTH]);
+    let d = opt_digits(row[at + SIGNAL]);
+    a + b + c + d + COMMAS
 }
 
 // Lines begun, and the entries and bytes of the last.

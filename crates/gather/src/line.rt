@@ -97,9 +97,9 @@ fn put_slot(row: &mut [u32], k: usize, s: Slot) -> usize
             let a = t.azimuth;
             let g = t.signal;
             row[at] = t.id;
-            row[at + 1] = word(e);
-            row[at + 2] = word(a);
-            row[at + 3] = word(g);
+            row[at + lent::ELEVATION] = word(e);
+            row[at + lent::AZIMUTH] = word(a);
+            row[at + lent::SIGNAL] = word(g);
             k + 1
         }
     }

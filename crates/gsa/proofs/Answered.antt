@@ -49,10 +49,11 @@ module _ {s : List ℕ} {r : GsaRead} where
   pub number-answer : r ≡ without NotNumber → Reads s 0 gsa (refused Number) → Answers (value (gsa s)) r
   number-answer e t = answered NotNumber e (value-is (refused Number) t)
 
-  pub empty-answer : {h : GsaHead} (p : ℕ) → r ≡ without (AGsa h) → Reads s 0 gsa (upto (gsaOf [] h) p) → Answers (value (gsa s)) r
-  empty-answer {h} p e t = answered (AGsa h) e (value-is (upto (gsaOf [] h) p) t)
+  pub empty-answer : {h h₀ : GsaHead} (p : ℕ) → h ≡ h₀ → r ≡ without (AGsa h) → Reads s 0 gsa (upto (gsaOf [] h₀) p) → Answers (value (gsa s)) r
+  empty-answer {h} {h₀} p o e t = answered (AGsa h₀) (e ∙ ap (λ (x : GsaHead). without (AGsa x)) o) (value-is (upto (gsaOf [] h₀) p) t)
 
-pub full-answer : {s : List ℕ} (h : GsaHead) (cells : List ℕ) (count p : ℕ) → Row cells count → Reads s 0 gsa (upto (gsaOf (take count cells) h) p)
+pub full-answer : {s : List ℕ} {h h₀ : GsaHead} (cells : List ℕ) (count p : ℕ) → h ≡ h₀ → Row cells count → Reads s 0 gsa (upto (gsaOf (take count cells) h₀) p)
     → Answers (value (gsa s)) (record { answer = AGsa h; satellites = cells; count = count })
-full-answer h cells count p w t =
-    rw (value-is (upto (gsaOf (take count cells) h) p) t) (record { says = refl; cells = w .rest; count = w .used })
+full-answer {h₀ = h₀} cells count p o w t =
+    rw (value-is (upto (gsaOf (take count cells) h₀) p) t)
+    (record { says = ap (λ (x : GsaHead). is (gsaOf (take count cells) x)) o; cells = w .rest; count = w .used })

@@ -343,6 +343,18 @@ fn fix(s: &[u8], at: usize) -> Letter
     Letter::Is(b, at + 1)
 }
 
+// What stands beside the satellites.
+fn head_of(mode: u8, fix: u8, dops: Dops, system: System) -> GsaHead
+    ensures { λ r. ⌜ r ≡ record { mode = mode; fix = fix; dops = dops; system = system } ⌝ }
+{
+    GsaHead {
+        mode: mode,
+        fix: fix,
+        dops: dops,
+        system: system,
+    }
+}
+
 // An answer with no satellites: each cell is zero.
 fn without(answer: GsaAnswer) -> GsaRead
     ensures { λ r. ⌜ r ≡ without answer ⌝ }
@@ -371,12 +383,8 @@ pub fn do_parse_gsa(s: &[u8]) -> GsaRead
         return without(GsaAnswer::Syntax);
     };
     if let Ending::Is(system, _) = empty_tail(s, at) {
-        return without(GsaAnswer::Is(GsaHead {
-            mode: mode,
-            fix: fix,
-            dops: Dops::Absent,
-            system: system,
-        }));
+        let head = head_of(mode, fix, Dops::Absent, system);
+        return without(GsaAnswer::Is(head));
     }
     let tail = full_tail(s, at);
     let satellites = tail.satellites;
@@ -385,16 +393,14 @@ pub fn do_parse_gsa(s: &[u8]) -> GsaRead
     match answer {
         TailAnswer::No => without(GsaAnswer::Syntax),
         TailAnswer::Number => without(GsaAnswer::Number),
-        TailAnswer::Is(pdop, hdop, vdop, system, _) => GsaRead {
-            answer: GsaAnswer::Is(GsaHead {
-                mode: mode,
-                fix: fix,
-                dops: Dops::Are(pdop, hdop, vdop),
-                system: system,
-            }),
-            satellites: satellites,
-            count: count,
-        },
+        TailAnswer::Is(pdop, hdop, vdop, system, _) => {
+            let head = head_of(mode, fix, Dops::Are(pdop, hdop, vdop), system);
+            GsaRead {
+                answer: GsaAnswer::Is(head),
+                satellites: satellites,
+                count: count,
+            }
+        }
     }
 }
 

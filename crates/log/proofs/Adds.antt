@@ -16,7 +16,7 @@ use Rattle.sentence.specs.declared.Record.{Record}
 use Rattle.gsv.specs.declared.GsvRecord.{GsvRecord}
 use Rattle.answer.specs.Sentence.{isRmc, isGsa, isGsv, isOther, isRefused}
 use Rattle.sentence.specs.declared.Record.the-variants.{Rmc, Gsa, Gsv, Other, Refused}
-use Rattle.fed.specs.Line.{Said, blank, read, saidOf, gsvOf, gathers}
+use Rattle.fed.specs.Line.{LogLine, blank, read, saidOf, acceptedGsv, gathers}
 use Rattle.fed.specs.Fed.{isHanded}
 use Rattle.log.specs.declared.line.Line as Code
 use Rattle.log.specs.declared.line.Line.the-variants.{Blank, Read}
@@ -27,7 +27,7 @@ use Rattle.log.specs.Walk.{tallied}
 use Rattle.log.specs.Answer.{lineIn, Follows}
 use Rattle.log.specs.Code.{SaysLine, sortOf, talliedBy, Takes}
 
-gsv-beside : (xs : List ℕ) (l : Code.Line) → gsvOf (lineIn [] l) ≡ gsvOf (lineIn xs l)
+gsv-beside : (xs : List ℕ) (l : Code.Line) → acceptedGsv (lineIn [] l) ≡ acceptedGsv (lineIn xs l)
 gsv-beside xs Blank = refl
 gsv-beside xs (Read (Rmc r)) = refl
 gsv-beside xs (Read (Gsa g)) = refl
@@ -51,7 +51,7 @@ module _ (c : Counts) (next : ℕ) where
       (record { lines = c .lines + 1; blank = c .blank + 0; accepted = c .accepted + 1; refused = c .refused + 0; groups = c .groups; next = next })
   one-accepted = λ i. record { lines = c .lines + 1; blank = zero' (c .blank) i; accepted = c .accepted + 1; refused = zero' (c .refused) i; groups = c .groups; next = next }
 
-  pub by-sort : (s : Said) → talliedBy c (sortOf s) next ≡ tallied c s next
+  pub by-sort : (s : LogLine) → talliedBy c (sortOf s) next ≡ tallied c s next
   by-sort blank = λ i. record { lines = c .lines + 1; blank = c .blank + 1; accepted = zero' (c .accepted) i; refused = zero' (c .refused) i; groups = c .groups; next = next }
   by-sort (read (isRmc r)) = one-accepted
   by-sort (read (isGsa g)) = one-accepted
@@ -61,10 +61,10 @@ module _ (c : Counts) (next : ℕ) where
 
 -- the line at a place, as the code has it: the GSV sentence that it is, and what it counts as and does
 module _ (log : List ℕ) (p : ℕ) (l : LineAt) (says : SaysLine log p l) where
-  pub gsv-is : gsvOf (lineIn [] (l .line)) ≡ gsvOf (saidOf (lineAt log p))
-  gsv-is = gsv-beside (take (l .count) (l .satellites)) (l .line) ∙ ap gsvOf (says .says)
+  pub gsv-is : acceptedGsv (lineIn [] (l .line)) ≡ acceptedGsv (saidOf (lineAt log p))
+  gsv-is = gsv-beside (take (l .count) (l .satellites)) (l .line) ∙ ap acceptedGsv (says .says)
 
-  pub taken : {t t′ : List ℕ} {o : Outcome} {k : LineTaken} → Follows (gsvOf (lineIn [] (l .line))) t t′ o → k .sort ≡ sortOf (lineIn [] (l .line))
+  pub taken : {t t′ : List ℕ} {o : Outcome} {k : LineTaken} → Follows (acceptedGsv (lineIn [] (l .line))) t t′ o → k .sort ≡ sortOf (lineIn [] (l .line))
       → k .handed ≡ isHanded o → k .next ≡ l .next → Takes log p t t′ k
   taken {t} x sort handed next =
       record {
@@ -79,5 +79,5 @@ pub follows-none : (t : List ℕ) → Follows none t t Nothing
 follows-none t = record { words = refl; says = refl }
 
 pub follows-gsv : (a : Record) (g : GsvRecord) (t t′ : List ℕ) (o : Outcome) → a ≡ Gsv g → Gathers t t′ (lineOf (gsvSentence g)) o
-    → Follows (gsvOf (read (recordOf [] a))) t t′ o
+    → Follows (acceptedGsv (read (recordOf [] a))) t t′ o
 follows-gsv a g t t′ o e x = rw e (record { words = x .words; says = x .says })

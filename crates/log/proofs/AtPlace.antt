@@ -11,7 +11,7 @@ use Rattle.gsa.specs.Answer.{row}
 use Rattle.answer.specs.Sentence.{answer}
 use Rattle.sentence.specs.Answer.{Says}
 use Rattle.sentence.specs.declared.ParseResult.{ParseResult}
-use Rattle.fed.specs.Line.{Said, blank, read, saidOf}
+use Rattle.fed.specs.Line.{LogLine, blank, read, saidOf}
 use Rattle.log.specs.declared.line.Line.the-variants.{Blank, Read}
 use Rattle.log.specs.Answer.{besideSaid, Cells}
 use Rattle.log.specs.Code.{SaysLine, CutAt}
@@ -35,7 +35,7 @@ module _ (log : List ℕ) (p end cut next : ℕ) (in' : p < length log) (ends : 
       let l : blank ≡ saidOf (lineAt log p) = sym (ap saidOf (line .line ∙ ap (λ (k : ℕ). take k (drop p log)) z)) in
       record {
         says = l;
-        beside = subst (λ (s : Said). Cells (besideSaid s) (row []) 0) l (record { are = refl; number = refl });
+        beside = subst (λ (s : LogLine). Cells (besideSaid s) (row []) 0) l (record { are = refl; number = refl });
         next = next-right;
       }
 
@@ -48,6 +48,6 @@ module _ (log : List ℕ) (p end cut next : ℕ) (in' : p < length log) (ends : 
       let l : read (answer text) ≡ saidOf (lineAt log p) = ap (λ (t : List ℕ). read (answer t)) (et ∙ sym (line .line)) ∙ said-read (lineAt log p) k in
       record {
         says = ap read (ea .says) ∙ l;
-        beside = subst (λ (s : Said). Cells (besideSaid s) (a .satellites) (a .count)) l (record { are = ea .beside .cells-are; number = ea .beside .count-is });
+        beside = subst (λ (s : LogLine). Cells (besideSaid s) (a .satellites) (a .count)) l (record { are = ea .beside .cells-are; number = ea .beside .count-is });
         next = next-right;
       }

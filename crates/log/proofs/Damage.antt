@@ -13,7 +13,7 @@ use Rattle.groups.specs.Log.{Gsv, Line, gsv, other, Handed, own}
 use Rattle.groups.specs.Group.{HandedOut, EndIn}
 use Rattle.groups.proofs.Damage.{same-after-damage}
 use Rattle.gsv.specs.Gsv.{Satellite}
-use Rattle.fed.specs.Line.{Said, blank, saidOf}
+use Rattle.fed.specs.Line.{LogLine, blank, saidOf}
 use Rattle.fed.specs.Seen.{seeing, seenOf}
 use Rattle.log.specs.Told.{says, told}
 
@@ -44,7 +44,7 @@ module _ (a b : List ℕ) (whole : Whole a) where
   says-parts : (m : List ℕ) → Whole m ⊎ (b ≡ []) → says (a ++ (m ++ b)) ≡ (says a ++ says m) ++ says b
   says-parts m w =
       says-append a (m ++ b) (inl whole)
-      ∙ ap (λ (x : List Said). says a ++ x) (says-append m b w)
+      ∙ ap (λ (x : List LogLine). says a ++ x) (says-append m b w)
       ∙ sym (append-assoc (says a) (says m) (says b))
 
   told-parts : (m : List ℕ) → Whole m ⊎ (b ≡ []) → told (a ++ (m ++ b)) ≡ (told a ++ told m) ++ told b
@@ -64,12 +64,12 @@ module _ (a b : List ℕ) (whole : Whole a) where
   -- the i-th line of a, and of b
   pub line-before : (m : List ℕ) (i : ℕ) → i < length (says a) → getD (says (a ++ (m ++ b))) i blank ≡ getD (says a) i blank
   line-before m i h =
-      ap (λ (ss : List Said). getD ss i blank) (says-append a (m ++ b) (inl whole)) ∙ List·getD-append (says a) (says (m ++ b)) blank i h
+      ap (λ (ss : List LogLine). getD ss i blank) (says-append a (m ++ b) (inl whole)) ∙ List·getD-append (says a) (says (m ++ b)) blank i h
 
   pub line-after : (m : List ℕ) → Whole m ⊎ (b ≡ []) → (i : ℕ)
       → getD (says (a ++ (m ++ b))) (length (says a) + length (says m) + i) blank ≡ getD (says b) i blank
   line-after m w i =
-      ap (λ (ss : List Said). getD ss (length (says a) + length (says m) + i) blank) (says-parts m w)
+      ap (λ (ss : List LogLine). getD ss (length (says a) + length (says m) + i) blank) (says-parts m w)
       ∙ ap (λ (k : ℕ). getD ((says a ++ says m) ++ says b) (k + i) blank) (sym (length-append (says a) (says m)))
       ∙ getD-append-add (says a ++ says m) (says b) i blank
 

@@ -20,7 +20,7 @@ use Rattle.groups.specs.Log.{Gsv, gsv, other, Handed}
 use Rattle.gsv.specs.Gsv.{Satellite}
 use Rattle.answer.specs.Sentence.{answer, isRefused}
 use Rattle.answer.proofs.OneByte.{Refuses, one-byte-refused}
-use Rattle.fed.specs.Line.{Said, blank, read, saidOf}
+use Rattle.fed.specs.Line.{LogLine, blank, read, saidOf}
 use Rattle.log.specs.Told.{says, told, stepAfter, lineIn, Gives}
 use Rattle.log.proofs.Damage.{says-count, line-before, line-after, same-before, same-after}
 use Rattle.log.proofs.Handing.{says-line, hands-out}
@@ -44,14 +44,14 @@ module _ (a b m m′ : List ℕ) (whole : Whole a) (w : Whole m ⊎ (b ≡ [])) 
   pub keeps-before : (i : ℕ) → i < length (says a) → lineIn (stepAfter i log .answer) ≡ lineIn (stepAfter i log′ .answer)
   keeps-before i h =
       says-line log i (omega (arith, says-count a b whole m w))
-      ∙ ap (λ (s : Said). some s) (line-before a b whole m i h ∙ sym (line-before a b whole m′ i h))
+      ∙ ap (λ (s : LogLine). some s) (line-before a b whole m i h ∙ sym (line-before a b whole m′ i h))
       ∙ sym (says-line log′ i (omega (arith, says-count a b whole m′ w′)))
 
   -- and those after
   pub keeps-after : (i : ℕ) → i < length (says b) → lineIn (stepAfter (from + i) log .answer) ≡ lineIn (stepAfter (from′ + i) log′ .answer)
   keeps-after i h =
       says-line log (from + i) (omega (arith, says-count a b whole m w))
-      ∙ ap (λ (s : Said). some s) (line-after a b whole m w i ∙ sym (line-after a b whole m′ w′ i))
+      ∙ ap (λ (s : LogLine). some s) (line-after a b whole m w i ∙ sym (line-after a b whole m′ w′ i))
       ∙ sym (says-line log′ (from′ + i) (omega (arith, says-count a b whole m′ w′)))
 
   -- groups that are handed out before are the same
@@ -101,10 +101,10 @@ module _ (log : List ℕ) (p : ℕ) (place : isPlace log p ≡ true) (q : Parts)
       by ℕ.zero = refl
       by (suc k) = refl
 
-  before : List Said
+  before : List LogLine
   before = says (take p log)
 
-  after : List Said
+  after : List LogLine
   after = says (rest (drop p log))
 
   was : says log ≡ before ++ (saidOf (lineAt log p) ∷ after)
@@ -116,7 +116,7 @@ module _ (log : List ℕ) (p : ℕ) (place : isPlace log p ≡ true) (q : Parts)
   is =
       ap (map saidOf) (one-byte log p place k c inside feed)
       ∙ map-append saidOf (lines (take p log)) _
-      ∙ ap (λ (s : Said). before ++ (s ∷ after)) (said-set (lineAt log p) inside ∙ ap read (refuses .is))
+      ∙ ap (λ (s : LogLine). before ++ (s ∷ after)) (said-set (lineAt log p) inside ∙ ap read (refuses .is))
 
   count : length (says damaged) ≡ length (says log)
   unfolding before after
@@ -132,16 +132,16 @@ module _ (log : List ℕ) (p : ℕ) (place : isPlace log p ≡ true) (q : Parts)
   line-refused =
       let z : index ≡ length before + 0 = omega arith in
       says-line damaged index index-in
-      ∙ ap (λ (ss : List Said). some (getD ss index blank)) is
+      ∙ ap (λ (ss : List LogLine). some (getD ss index blank)) is
       ∙ ap (λ (i : ℕ). some (getD (before ++ (read (isRefused why) ∷ after)) i blank)) z
-      ∙ ap (λ (s : Said). some s) (getD-append-add before (read (isRefused why) ∷ after) 0 blank)
+      ∙ ap (λ (s : LogLine). some s) (getD-append-add before (read (isRefused why) ∷ after) 0 blank)
 
   -- and every other line keeps its answer
-  other-line : (s t : Said) (i : ℕ) → (i ≡ index → ⊥) → getD (before ++ (s ∷ after)) i blank ≡ getD (before ++ (t ∷ after)) i blank
+  other-line : (s t : LogLine) (i : ℕ) → (i ≡ index → ⊥) → getD (before ++ (s ∷ after)) i blank ≡ getD (before ++ (t ∷ after)) i blank
   unfolding before after
   other-line s t i n = go before i n
     where
-      go : (b : List Said) (i : ℕ) → (i ≡ length b → ⊥) → getD (b ++ (s ∷ after)) i blank ≡ getD (b ++ (t ∷ after)) i blank
+      go : (b : List LogLine) (i : ℕ) → (i ≡ length b → ⊥) → getD (b ++ (s ∷ after)) i blank ≡ getD (b ++ (t ∷ after)) i blank
       go [] ℕ.zero n = absurd (n refl)
       go [] (suc i) n = refl
       go (x ∷ b) ℕ.zero n = refl
@@ -150,7 +150,7 @@ module _ (log : List ℕ) (p : ℕ) (place : isPlace log p ≡ true) (q : Parts)
   pub others-keep : (i : ℕ) → i < length (says log) → (i ≡ index → ⊥) → lineIn (stepAfter i damaged .answer) ≡ lineIn (stepAfter i log .answer)
   others-keep i h n =
       says-line damaged i (omega (arith, count))
-      ∙ ap (λ (ss : List Said). some (getD ss i blank)) is
-      ∙ ap (λ (s : Said). some s) (other-line (read (isRefused why)) (saidOf (lineAt log p)) i n)
-      ∙ ap (λ (ss : List Said). some (getD ss i blank)) (sym was)
+      ∙ ap (λ (ss : List LogLine). some (getD ss i blank)) is
+      ∙ ap (λ (s : LogLine). some s) (other-line (read (isRefused why)) (saidOf (lineAt log p)) i n)
+      ∙ ap (λ (ss : List LogLine). some (getD ss i blank)) (sym was)
       ∙ sym (says-line log i h)

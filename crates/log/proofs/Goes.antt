@@ -13,7 +13,7 @@ use Rattle.lines.proofs.Next.{next-within, next-more, next-place, lines-here, l
 use Rattle.rows.specs.Line.{lineOf}
 use Rattle.gsv.specs.Gsv.{GsvSentence}
 use Rattle.gather.proofs.Tables.{table-long}
-use Rattle.fed.specs.Line.{saidOf, gsvOf, Gatherer, Gathered, gathers}
+use Rattle.fed.specs.Line.{saidOf, acceptedGsv, Gatherer, Gathered, gathers}
 use Rattle.fed.specs.Fed.{isHanded}
 use Rattle.fed.proofs.Counts.{one-of-three}
 use Rattle.log.specs.declared.walk.Counts.{Counts}
@@ -33,7 +33,7 @@ abbrev lineTallied : List ℕ → Counts → Counts
 lineTallied log c = tallied c (saidOf (lineAt log (c .next))) (nextPlace log (c .next))
 
 abbrev lineGathered : List ℕ → Going → Gathered
-lineGathered log w = gathers (w .gatherer) (gsvOf (saidOf (lineAt log (w .counts .next))))
+lineGathered log w = gathers (w .gatherer) (acceptedGsv (saidOf (lineAt log (w .counts .next))))
 
 -- a step at a line
 abbrev pub going : List ℕ → Going → Going
@@ -173,7 +173,7 @@ module _ (log : List ℕ) (place allowance : ℕ) (g : Gatherer) (c : Counts) (a
       pub after-turn : Goes log place allowance g c' a'
       after-turn =
           goes-on c' a' (λ i. record { counts = (ec ∙ (λ j. grouped (right j) (x .handed j))) i; gatherer = x .words i })
-          (ap length (x .words) ∙ long (gsvOf (saidOf (lineAt log (c .next)))) ∙ now' .rows)
+          (ap length (x .words) ∙ long (acceptedGsv (saidOf (lineAt log (c .next)))) ∙ now' .rows)
         where
           long : (f : Option GsvSentence) → length (gathers a f .gatherer) ≡ length a
           long none = refl

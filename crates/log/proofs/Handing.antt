@@ -16,7 +16,7 @@ use Rattle.groups.specs.Log.{Handed}
 use Rattle.groups.specs.Group.{HandedOut}
 use Rattle.gsv.specs.Gsv.{Satellite}
 use Rattle.gather.specs.Table.{freshTable}
-use Rattle.fed.specs.Line.{Said, blank, saidOf, saidAll, gsvOf, Gatherer, gathers}
+use Rattle.fed.specs.Line.{LogLine, blank, saidOf, saidAll, acceptedGsv, Gatherer, gathers}
 use Rattle.fed.specs.Seen.{givenBy, givenAt}
 use Rattle.fed.specs.Fed.{gathered, fedAt}
 use Rattle.fed.proofs.Handing.{hands-list}
@@ -92,7 +92,7 @@ module _ (log : List ℕ) (i : ℕ) (within : i < length (says log)) where
   by-step : stepAfter i log
       ≡ record {
         answer = line (saidOf (lineAt log (there .counts .next))) (nextPlace log (there .counts .next));
-        gathered = gathers (there .gatherer) (gsvOf (saidOf (lineAt log (there .counts .next))));
+        gathered = gathers (there .gatherer) (acceptedGsv (saidOf (lineAt log (there .counts .next))));
       }
   by-step =
       let s = still in
@@ -100,19 +100,19 @@ module _ (log : List ℕ) (i : ℕ) (within : i < length (says log)) where
 
   -- THE THEOREM: it answers the line behind the i lines that the steps before it answered
   pub says-line : lineIn (stepAfter i log .answer) ≡ some (getD (says log) i blank)
-  says-line = ap (λ (s : Stepped). lineIn (s .answer)) by-step ∙ ap (λ (s : Said). some s) its-said
+  says-line = ap (λ (s : Stepped). lineIn (s .answer)) by-step ∙ ap (λ (s : LogLine). some s) its-said
 
   -- THE THEOREM: it does what that line does to a gatherer that is fed the log's lines
   pub feeds-line : stepAfter i log .gathered ≡ fedAt (says log) i
   feeds-line =
       ap (λ (s : Stepped). s .gathered) by-step
-      ∙ ap (λ (g : Gatherer). gathers g (gsvOf (saidOf (lineAt log (there .counts .next))))) (reached .holding)
-      ∙ ap (λ (s : Said). gathers (gathered freshTable (take i (says log))) (gsvOf s)) its-said
+      ∙ ap (λ (g : Gatherer). gathers g (acceptedGsv (saidOf (lineAt log (there .counts .next))))) (reached .holding)
+      ∙ ap (λ (s : LogLine). gathers (gathered freshTable (take i (says log))) (acceptedGsv s)) its-said
 
   its-given : givenBy (gsvIn (stepAfter i log .answer)) (stepAfter i log .gathered) ≡ givenAt (says log) i
   its-given =
       ap (λ (s : Stepped). givenBy (gsvIn (s .answer)) (s .gathered)) by-step
-      ∙ (λ j. givenBy (gsvOf (its-said j)) (gathers (reached .holding j) (gsvOf (its-said j))))
+      ∙ (λ j. givenBy (acceptedGsv (its-said j)) (gathers (reached .holding j) (acceptedGsv (its-said j))))
 
   -- THE THEOREM: so it hands out a group exactly where the definition says
   pub hands-out : (h : Handed Satellite) → Gives (stepAfter i log) h ↔ HandedOut (told log) i h

@@ -24,7 +24,7 @@ use Rattle.gather.specs.Words.{openOf, stands}
 use Rattle.gather.specs.Table.{freshTable, tableOf}
 use Rattle.gather.specs.Run.{run}
 use Rattle.gather.proofs.LentRows.{left-stands, lent-exactly}
-use Rattle.fed.specs.Line.{read, saidOf, saidAll, gsvOf, Gatherer, gathers}
+use Rattle.fed.specs.Line.{read, saidOf, saidAll, acceptedGsv, Gatherer, gathers}
 use Rattle.fed.specs.Fed.{gathered}
 use Rattle.log.specs.Told.{says}
 
@@ -34,9 +34,9 @@ pub record LeftByLog (κ : ℕ) (ws : List ℕ) : Type 0 where
   pub leaves : tableOf (gathered freshTable (says log)) κ ≡ some (openOf ws)
 
 -- what is accepted is no blank line
-accepted-said : (l : List ℕ) (s : GsvSentence) → answer l ≡ isGsv s → gsvOf (saidOf l) ≡ some s
+accepted-said : (l : List ℕ) (s : GsvSentence) → answer l ≡ isGsv s → acceptedGsv (saidOf l) ≡ some s
 accepted-said [] s e = let a = answered [] s e in absurd (omega (arith, star-within [] (a .parts) (a .framed)))
-accepted-said (b ∷ l) s e = ap (λ a. gsvOf (read a)) e
+accepted-said (b ∷ l) s e = ap (λ a. acceptedGsv (read a)) e
 
 -- lines, each with its line feed
 text : (ss : List GsvSentence) → All Written ss → List ℕ

@@ -10,7 +10,7 @@ use Rattle.frame.specs.declared.refusal.Refusal.the-variants.{LogTooLong, BadPl
 use Rattle.lines.specs.Places.{isPlace, lineAt, nextPlace}
 use Rattle.gather.specs.declared.line.Outcome.{Outcome}
 use Rattle.gsa.specs.Answer.{row}
-use Rattle.fed.specs.Line.{saidOf, gsvOf, Gatherer, gathers}
+use Rattle.fed.specs.Line.{saidOf, acceptedGsv, Gatherer, gathers}
 use Rattle.log.specs.declared.line.LineAt.{LineAt}
 use Rattle.log.specs.declared.step.Stepped as Code
 use Rattle.log.specs.declared.step.Stepped.the-variants.{Refused, End, Line}
@@ -27,7 +27,7 @@ module _ (log : List ℕ) (p : ℕ) (g : Gatherer) where
   good-place h e = simp (le-ltb longest (length log) h, e)
 
   pub at-line : (p ≡ length log → ⊥)
-      → _≡_ {A = Stepped} (record { answer = line (saidOf (lineAt log p)) (nextPlace log p); gathered = gathers g (gsvOf (saidOf (lineAt log p))) }) (stepAt log p g)
+      → _≡_ {A = Stepped} (record { answer = line (saidOf (lineAt log p)) (nextPlace log p); gathered = gathers g (acceptedGsv (saidOf (lineAt log p))) }) (stepAt log p g)
   unfolding stepAt
   at-line n = simp (ne-eqb p (length log) n)
 
@@ -74,7 +74,7 @@ module _ (log : List ℕ) (p : ℕ) (g : Gatherer) where
       pub step-end : {r : StepAnswer} → p ≡ length log → r ≡ idleOf (End p) → SaysStep (stepOf log p g) g r
       step-end n e = idle-says (End p) g e refl (at-end log p g n ∙ here)
 
-      pub step-line : (p ≡ length log → ⊥) → (l : LineAt) → SaysLine log p l → {t′ : List ℕ} {o : Outcome} → Follows (gsvOf (lineIn [] (l .line))) g t′ o
+      pub step-line : (p ≡ length log → ⊥) → (l : LineAt) → SaysLine log p l → {t′ : List ℕ} {o : Outcome} → Follows (acceptedGsv (lineIn [] (l .line))) g t′ o
           → SaysStep (stepOf log p g) t′ (answered l o)
       step-line n l says {t′} {o} x =
           subst (λ (s : Stepped). SaysStep s t′ (answered l o)) (at-line log p g n ∙ here)

@@ -13,24 +13,24 @@ use Rattle.frame.specs.Refused.{Refused, logTooLong, badPlace}
 use Rattle.frame.specs.Frame.{sentence, sized, frame}
 use Rattle.answer.specs.Sentence.{isRefused, answer}
 use Rattle.lines.specs.Places.{isPlace, lineAt, nextPlace}
-use Rattle.fed.specs.Line.{Said, blank, read, saidOf, gsvOf, Gatherer, untouched, gathers}
+use Rattle.fed.specs.Line.{LogLine, blank, read, saidOf, acceptedGsv, Gatherer, untouched, gathers}
 use Rattle.log.specs.Step.{longest, Step, refused, end, line, Stepped, idle, stepAt, stepOf}
 
 -- a step's answer that is no accepted GSV line
 abbrev pub NoGsv : Step → Type 0
 NoGsv (refused r) = Unit {0}
 NoGsv (end p) = Unit {0}
-NoGsv (line s p) = gsvOf s ≡ none
+NoGsv (line s p) = acceptedGsv s ≡ none
 
 pub quiet : (log : List ℕ) (p : ℕ) (g : Gatherer) → NoGsv (stepOf log p g .answer) → stepOf log p g .gathered ≡ untouched g
 unfolding stepOf stepAt
 quiet log p g = go (ltb longest (length log)) (isPlace log p) (eqb p (length log))
   where
-    s : Said
+    s : LogLine
     s = saidOf (lineAt log p)
 
     here : Stepped
-    here = record { answer = line (saidOf (lineAt log p)) (nextPlace log p); gathered = gathers g (gsvOf (saidOf (lineAt log p))) }
+    here = record { answer = line (saidOf (lineAt log p)) (nextPlace log p); gathered = gathers g (acceptedGsv (saidOf (lineAt log p))) }
 
     go : (a b c : Bool)
         → NoGsv
@@ -43,14 +43,14 @@ quiet log p g = go (ltb longest (length log)) (isPlace log p) (eqb p (length log
     go false false c n = refl
 
 -- a refused line is such an answer, and so is a blank one
-pub refused-line : (r : Refused) → gsvOf (read (isRefused r)) ≡ none
+pub refused-line : (r : Refused) → acceptedGsv (read (isRefused r)) ≡ none
 refused-line r = refl
 
-pub blank-line : gsvOf blank ≡ none
+pub blank-line : acceptedGsv blank ≡ none
 blank-line = refl
 
 -- who reads a blank line too is answered a refusal: it does as little
-pub blank-or-read : (l : List ℕ) → gsvOf (read (answer l)) ≡ gsvOf (saidOf l)
+pub blank-or-read : (l : List ℕ) → acceptedGsv (read (answer l)) ≡ acceptedGsv (saidOf l)
 unfolding answer frame sized sentence _>>=_ char after ascii
 blank-or-read [] = refl
 blank-or-read (b ∷ l) = refl

@@ -12,7 +12,7 @@ use lib.Seq.{take-nil}
 use Rattle.lines.specs.Lines.{lines}
 use Rattle.lines.specs.Places.{isPlace, rest, lineAt, nextPlace}
 use Rattle.lines.proofs.Next.{next-place, drop-next, lines-here, lines-end}
-use Rattle.fed.specs.Line.{Said, saidOf, saidAll, gsvOf, Gatherer, gathers, isBlank, isAccepted, isRefusal}
+use Rattle.fed.specs.Line.{LogLine, saidOf, saidAll, acceptedGsv, Gatherer, gathers, isBlank, isAccepted, isRefusal}
 use Rattle.fed.specs.Fed.{onceIf, isHanded, howMany, gathered, groupsOf}
 use Rattle.log.specs.declared.walk.Counts.{Counts}
 use Rattle.log.specs.Walk.{tallied, grouped, Going, begin}
@@ -21,7 +21,7 @@ use Rattle.log.proofs.Places.{place-within}
 use Rattle.log.proofs.Goes.{going, going-next, goOn, go-none, go-end, go-more}
 
 -- totals on top of what was counted before
-abbrev pub onTop : Going → List Said → ℕ → Going
+abbrev pub onTop : Going → List LogLine → ℕ → Going
 onTop w ss next =
     record {
       counts = record {
@@ -85,7 +85,7 @@ one-more : (x y : ℕ) → x + 1 + y ≡ x + suc y
 one-more x y = omega arith
 
 -- one line, and then others
-onTop-more : (w : Going) (s : Said) (b : Bool) (g : Gatherer) (p q : ℕ) (ss : List Said) (k : ℕ) → onceIf b + groupsOf g ss ≡ k
+onTop-more : (w : Going) (s : LogLine) (b : Bool) (g : Gatherer) (p q : ℕ) (ss : List LogLine) (k : ℕ) → onceIf b + groupsOf g ss ≡ k
     → onTop (record { counts = grouped (tallied (w .counts) s p) b; gatherer = g }) ss q
     ≡ record {
       counts = record {
@@ -141,7 +141,7 @@ module _ (log : List ℕ) where
       let left : length (behind n (drop p log)) ≡ 0 = ap (λ (l : List ℕ). length (behind n l)) (drop-of-length-le log k) ∙ ap length (behind-nil n) in
       go-end log n w k
       ∙ onTop-none w (place log p n) (omega arith)
-      ∙ ap (λ (ss : List Said). onTop w ss (place log p n)) (sym none')
+      ∙ ap (λ (ss : List LogLine). onTop w ss (place log p n)) (sym none')
 
   -- one line more
   one-line : (n : ℕ) (w : Going) → w .counts .next < length log
@@ -158,7 +158,7 @@ module _ (log : List ℕ) where
       ∙ ap (λ (k : ℕ). goOn log k (going log w)) z
       ∙ ih
       ∙ ap (λ (k : ℕ). onTop (going log w) (said log k n) (place log k n)) (going-next log w)
-      ∙ onTop-more w s (isHanded (gathers (w .gatherer) (gsvOf s) .handed)) (gathers (w .gatherer) (gsvOf s) .gatherer) q (place log q n) (said log q n) _ refl
+      ∙ onTop-more w s (isHanded (gathers (w .gatherer) (acceptedGsv s) .handed)) (gathers (w .gatherer) (acceptedGsv s) .gatherer) q (place log q n) (said log q n) _ refl
       ∙ ap (λ (ls : List (List ℕ)). onTop w (saidAll (take (suc n) ls)) (place log q n)) (sym (lines-here log p h))
       ∙ ap (λ (l : List ℕ). onTop w (said log p (suc n)) (length log - length (behind n l))) (drop-next log p h')
 

@@ -15,7 +15,7 @@ use Rattle.groups.specs.Group.{HandedOut}
 use Rattle.groups.specs.Count.{Many}
 use Rattle.gsv.specs.Gsv.{Satellite}
 use Rattle.gather.specs.Table.{freshTable}
-use Rattle.fed.specs.Line.{Said, saidOf, saidAll, isBlank, isAccepted, isRefusal, Gatherer}
+use Rattle.fed.specs.Line.{LogLine, saidOf, saidAll, isBlank, isAccepted, isRefusal, Gatherer}
 use Rattle.fed.specs.Fed.{howMany, gathered, groupsOf}
 use Rattle.fed.proofs.Groups.{groups-counted}
 use Rattle.log.specs.declared.walk.Counts.{Counts}
@@ -69,7 +69,7 @@ module _ (log : List ℕ) where
     all-totals : (g : Gatherer) → totals log 0 n g ≡ wholeOf log g
     unfolding totals
     all-totals g = λ i.
-        let ss : List Said = all-said i in
+        let ss : List LogLine = all-said i in
         record {
           counts = record {
             lines = (ap length all-said ∙ length-map (lines log) saidOf) i;

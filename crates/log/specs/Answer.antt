@@ -10,7 +10,7 @@ use Rattle.gsv.specs.Gsv.{GsvSentence}
 use Rattle.sentence.specs.Answer.{recordOf, satellitesOf}
 use Rattle.lines.specs.Places.{lineAt, nextPlace}
 use Rattle.gather.specs.declared.line.Outcome.{Outcome}
-use Rattle.fed.specs.Line.{Said, blank, read, saidOf, gathers}
+use Rattle.fed.specs.Line.{LogLine, blank, read, saidOf, gathers}
 use Rattle.log.specs.Step.{Step, refused, end, line, Stepped}
 use Rattle.log.specs.Walk.{Walk, barred, went, Walked}
 use Rattle.log.specs.declared.line.Line as Code
@@ -22,7 +22,7 @@ use Rattle.log.specs.declared.walk.Walked as CodeWalk
 use Rattle.log.specs.declared.walk.Walked.the-variants as walked
 
 -- with the satellites that stand beside it
-abbrev pub lineIn : List ℕ → Code.Line → Said
+abbrev pub lineIn : List ℕ → Code.Line → LogLine
 lineIn xs Blank = blank
 lineIn xs (Read r) = read (recordOf xs r)
 
@@ -31,7 +31,7 @@ pub record Follows (x : Option GsvSentence) (t t′ : List ℕ) (r : Outcome) : 
   pub words : t′ ≡ gathers t x .gatherer
   pub says : r ≡ gathers t x .handed
 
-abbrev pub besideSaid : Said → List ℕ
+abbrev pub besideSaid : LogLine → List ℕ
 besideSaid blank = []
 besideSaid (read a) = satellitesOf a
 

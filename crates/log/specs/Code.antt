@@ -9,7 +9,7 @@ use Rattle.answer.specs.Sentence.{isRmc, isGsa, isGsv, isOther, isRefused}
 use Rattle.lines.specs.Lines.{lineFeed}
 use Rattle.lines.specs.Places.{lineAt, nextPlace, stretch}
 use Rattle.gather.specs.declared.line.Outcome.the-variants.{Nothing}
-use Rattle.fed.specs.Line.{Said, blank, read, saidOf, gsvOf, gathers}
+use Rattle.fed.specs.Line.{LogLine, blank, read, saidOf, acceptedGsv, gathers}
 use Rattle.fed.specs.Fed.{isHanded}
 use Rattle.log.specs.Step.{longest}
 use Rattle.log.specs.Answer.{lineIn, besideSaid, Cells}
@@ -38,7 +38,7 @@ Clear log p n r = r ≡ false → length (stretch (drop p log)) ≡ n + length (
 abbrev pub idleOf : Stepped → StepAnswer
 idleOf s = record { stepped = s; satellites = row []; count = 0; handed = Nothing }
 
-abbrev pub sortOf : Said → Sort
+abbrev pub sortOf : LogLine → Sort
 sortOf blank = Blank
 sortOf (read (isRmc r)) = Accepted
 sortOf (read (isGsa g)) = Accepted
@@ -64,8 +64,8 @@ pub record Within (c : Counts) : Type 0 where
 -- what the line at a place counts as and does to the words, and the place after it
 pub record Takes (log : List ℕ) (p : ℕ) (t t′ : List ℕ) (r : LineTaken) : Type 0 where
   pub sort : r .sort ≡ sortOf (saidOf (lineAt log p))
-  pub handed : r .handed ≡ isHanded (gathers t (gsvOf (saidOf (lineAt log p))) .handed)
-  pub words : t′ ≡ gathers t (gsvOf (saidOf (lineAt log p))) .gatherer
+  pub handed : r .handed ≡ isHanded (gathers t (acceptedGsv (saidOf (lineAt log p))) .handed)
+  pub words : t′ ≡ gathers t (acceptedGsv (saidOf (lineAt log p))) .gatherer
   pub next : r .next ≡ nextPlace log p
 
 -- the line at a place that is not the end, and the place after it

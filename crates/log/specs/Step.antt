@@ -6,7 +6,7 @@ use lib.Dec.{eqb, ltb}
 use lib.ListN.{length}
 use Rattle.frame.specs.Refused.{Refused, logTooLong, badPlace}
 use Rattle.lines.specs.Places.{isPlace, lineAt, nextPlace}
-use Rattle.fed.specs.Line.{Said, saidOf, gsvOf, Gatherer, Gathered, untouched, gathers}
+use Rattle.fed.specs.Line.{LogLine, saidOf, acceptedGsv, Gatherer, Gathered, untouched, gathers}
 
 -- "a log has at most 65,536 bytes"
 abbrev pub longest : ℕ
@@ -16,7 +16,7 @@ longest = 65536
 pub data Step : Type 0 where
   refused : Refused → Step
   end : ℕ → Step
-  line : Said → ℕ → Step
+  line : LogLine → ℕ → Step
 
 -- what a step answers, and what it does to the gatherer
 pub record Stepped : Type 0 where
@@ -30,7 +30,7 @@ idle s g = record { answer = s; gathered = untouched g }
 unfoldable pub stepAt : List ℕ → ℕ → Gatherer → Stepped
 stepAt log p g =
     cond (eqb p (length log)) (idle (end p) g)
-    (record { answer = line (saidOf (lineAt log p)) (nextPlace log p); gathered = gathers g (gsvOf (saidOf (lineAt log p))) })
+    (record { answer = line (saidOf (lineAt log p)) (nextPlace log p); gathered = gathers g (acceptedGsv (saidOf (lineAt log p))) })
 
 -- "check 12, then 13; both answer with the refusal alone"
 unfoldable pub stepOf : List ℕ → ℕ → Gatherer → Stepped

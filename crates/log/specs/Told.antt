@@ -7,13 +7,13 @@ use Rattle.gsv.specs.Gsv.{Satellite, GsvSentence}
 use Rattle.groups.specs.Log.{Line, Handed}
 use Rattle.lines.specs.Lines.{lines}
 use Rattle.gather.specs.Table.{freshTable}
-use Rattle.fed.specs.Line.{Said, saidAll, gsvOf, Gatherer}
+use Rattle.fed.specs.Line.{LogLine, saidAll, acceptedGsv, Gatherer}
 use Rattle.fed.specs.Seen.{seenOf, givenBy}
 use Rattle.log.specs.Step.{Step, refused, end, line, Stepped, stepAt}
 use Rattle.log.specs.Walk.{begin, steps}
 
 -- what each line is
-abbrev pub says : List ℕ → List Said
+abbrev pub says : List ℕ → List LogLine
 says log = saidAll (lines log)
 
 abbrev pub told : List ℕ → List (Line Satellite)
@@ -30,7 +30,7 @@ abbrev pub stepAfter : ℕ → List ℕ → Stepped
 stepAfter i log = after (stepAt log) i
 
 -- the line that a step answers
-abbrev pub lineIn : Step → Option Said
+abbrev pub lineIn : Step → Option LogLine
 lineIn (refused r) = none
 lineIn (end p) = none
 lineIn (line s p) = some s
@@ -39,7 +39,7 @@ lineIn (line s p) = some s
 abbrev pub gsvIn : Step → Option GsvSentence
 gsvIn (refused r) = none
 gsvIn (end p) = none
-gsvIn (line s p) = gsvOf s
+gsvIn (line s p) = acceptedGsv s
 
 abbrev pub Gives : Stepped → Handed Satellite → Type 0
 Gives s h = givenBy (gsvIn (s .answer)) (s .gathered) ≡ some h

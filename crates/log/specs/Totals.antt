@@ -4,7 +4,7 @@ use mathlib.Core.List.{List}
 use lib.ListN.{length, take, drop}
 use Rattle.lines.specs.Lines.{lines}
 use Rattle.lines.specs.Places.{rest}
-use Rattle.fed.specs.Line.{Said, saidAll, isBlank, isAccepted, isRefusal, Gatherer}
+use Rattle.fed.specs.Line.{LogLine, saidAll, isBlank, isAccepted, isRefusal, Gatherer}
 use Rattle.fed.specs.Fed.{howMany, gathered, groupsOf}
 use Rattle.log.specs.Walk.{Going}
 
@@ -14,7 +14,7 @@ behind zero l = l
 behind (suc k) l = behind k (rest l)
 
 -- what the next n lines from p on are
-abbrev pub said : List ℕ → ℕ → ℕ → List Said
+abbrev pub said : List ℕ → ℕ → ℕ → List LogLine
 said log p n = saidAll (take n (lines (drop p log)))
 
 -- n lines from p on

@@ -7,12 +7,12 @@ use lib.ListN.{length, drop}
 use Rattle.frame.specs.Refused.{Refused, logTooLong, badPlace}
 use Rattle.lines.specs.Lines.{lines}
 use Rattle.lines.specs.Places.{isPlace}
-use Rattle.fed.specs.Line.{Said, isBlank, isAccepted, isRefusal, Gatherer, Gathered}
+use Rattle.fed.specs.Line.{LogLine, isBlank, isAccepted, isRefusal, Gatherer, Gathered}
 use Rattle.fed.specs.Fed.{onceIf, isHanded}
 use Rattle.log.specs.Step.{longest, Step, refused, end, line, Stepped, stepOf}
 use Rattle.log.specs.declared.walk.Counts.{Counts}
 
-abbrev pub tallied : Counts → Said → ℕ → Counts
+abbrev pub tallied : Counts → LogLine → ℕ → Counts
 tallied c said next =
     record {
       lines = c .lines + 1;

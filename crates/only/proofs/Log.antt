@@ -9,7 +9,7 @@ use Rattle.gather.specs.Table.{freshTable}
 use Rattle.sentence.specs.Answer.{recordOf}
 use Rattle.sentence.specs.declared.Record.{Record}
 use Rattle.gather.specs.declared.line.Outcome.{Outcome}
-use Rattle.fed.specs.Line.{Said, blank, read, gsvOf}
+use Rattle.fed.specs.Line.{LogLine, blank, read, acceptedGsv}
 use Rattle.log.specs.Step.{Step, refused, end, line, stepOf}
 use Rattle.log.specs.Walk.{Walk, barred, went, walkOf}
 use Rattle.log.specs.Answer.{lineIn, Follows, stepIn, SaysStep, walkIn, SaysWalk}
@@ -24,7 +24,7 @@ use Rattle.only.proofs.Laws.{same, brought, undone}
 use Rattle.only.proofs.Frame.{refusal-of, refusal-is}
 use Rattle.only.proofs.Sentence.{record-of, record-is}
 
-line-of : Said → Code.Line
+line-of : LogLine → Code.Line
 line-of blank = Blank
 line-of (read a) = Read (record-of a)
 
@@ -58,8 +58,8 @@ pub is-place : (log : List ℕ) (place : ℕ) {r q : Bool} → r ≡ isPlace log
 is-place log place = same
 
 pub follow : (answer : Record) (words : List ℕ) {l m : List ℕ} {r q : Outcome}
-    → Follows (gsvOf (read (recordOf [] answer))) words l r
-    → Follows (gsvOf (read (recordOf [] answer))) words m q
+    → Follows (acceptedGsv (read (recordOf [] answer))) words l r
+    → Follows (acceptedGsv (read (recordOf [] answer))) words m q
     → (r ≡ q) × (l ≡ m)
 follow answer words x y = (same (x .says) (y .says), same (x .words) (y .words))
 

@@ -7,6 +7,10 @@ use lib.Dec.{ltb, leb}
 use lib.ListN.{length}
 use Rattle.groups.specs.Left.{All}
 
+-- a line has four entries
+abbrev pub entryMax : ℕ
+entryMax = 4
+
 -- es is cut into j pieces, each of which is P
 pub record Cut {A : Type 0} (P : List A → Type 0) (j : ℕ) (es : List A) : Type 0 where
   pub pieces : List (List A)
@@ -21,7 +25,7 @@ module _ {A : Type 0} (w : A → ℕ) where
 
   -- there is room for e behind c entries of weight u
   abbrev pub hasRoom : ℕ → ℕ → ℕ → A → Bool
-  hasRoom room c u e = ltb c 4 && leb (u + w e) room
+  hasRoom room c u e = ltb c entryMax && leb (u + w e) room
 
   -- GREEDY: how many more pieces are begun, where the one at hand has c entries of weight u
   unfoldable pub more : ℕ → ℕ → ℕ → List A → ℕ
@@ -32,8 +36,8 @@ module _ {A : Type 0} (w : A → ℕ) where
 
   -- at first none is at hand
   abbrev pub pieceCount : ℕ → List A → ℕ
-  pieceCount room es = more room 4 0 es
+  pieceCount room es = more room entryMax 0 es
 
 pub record Light {A : Type 0} (w : A → ℕ) (room : ℕ) (p : List A) : Type 0 where
-  pub few : length p ≤ 4
+  pub few : length p ≤ entryMax
   pub light : weight w p ≤ room

@@ -3,6 +3,11 @@
 use libc::STDIN_FILENO;
 use libc::STDOUT_FILENO;
 
+// How many words an answer has, and how many bytes these are.
+const WORDS: u32 = 40;
+
+const BYTES: usize = 320;
+
 // More frames, and more bytes of the first line, than any list has: a program must end.
 const MOST: u64 = 4000000000;
 
@@ -50,10 +55,10 @@ fn same_word(bytes: &[u8], i: u32, word: u64) -> bool {
     same_byte(bytes, at + 7, word / 72057594037927936)
 }
 
-// Whether all 40 words are those that are expected.
+// Whether all words are those that are expected.
 fn same_words(words: &[u64], expected: &[u8]) -> bool {
     let mut i: u32 = 0;
-    while i < 40 {
+    while i < WORDS {
         let k = i as usize;
         if words.len() <= k {
             return false;
@@ -69,11 +74,11 @@ fn same_words(words: &[u64], expected: &[u8]) -> bool {
 
 // Reads the expected answer to a line, and holds ours against it.
 fn answer(line: &[u8]) -> Frame {
-    let mut expected = [0u8; 320];
-    if io::read_full(STDIN_FILENO, &mut expected) < 320 {
+    let mut expected = [0u8; BYTES];
+    if io::read_full(STDIN_FILENO, &mut expected) < BYTES {
         return Frame::Cut;
     }
-    let mut words = [0u64; 40];
+    let mut words = [0u64; WORDS as usize];
     capi::nmea_answer(line, &mut words);
     if same_words(&words, &expected) {
         return Frame::Same;

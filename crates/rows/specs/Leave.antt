@@ -7,7 +7,7 @@ use mathlib.Core.Option.{Option, none, some}
 use lib.Dec.{leb}
 use lib.ListN.{length}
 use Rattle.frame.specs.Frame.{maxLength}
-use Rattle.groups.specs.Log.{Gsv}
+use Rattle.groups.specs.Log.{lineMax, Gsv}
 use Rattle.groups.specs.Step.{Open}
 use Rattle.groups.specs.Left.{LeftBy}
 use Rattle.gsv.specs.Gsv.{countMax, idMax, placeMax, Satellite, GsvSentence}
@@ -54,7 +54,7 @@ abbrev pub leavable : Open Satellite → Bool
 leavable o =
     leb 2 (o .next)
     && (leb (o .next) (o .n)
-    && (leb (o .n) 9
+    && (leb (o .n) lineMax
     && (leb (o .view) countMax && (allReadable (o .sats) && leb (pieceCount entrySize (space (o .view)) (o .sats)) (o .next - 1)))))
 
 -- of a row that may be empty

@@ -179,7 +179,7 @@ sum : (a b c d l x y z : ℕ) → a + 1 + x ≤ l → b + 1 + y ≤ x → c + 1 
 sum a b c d l x y z h i j k = omega arith
 
 -- four entries that may not match, whatever is made of them
-record Four (mk : (a b c d : Option Satellite) → Gsv) (l : List ℕ) (r : Gsv) : Type 0 where
+record FourRead (mk : (a b c d : Option Satellite) → Gsv) (l : List ℕ) (r : Gsv) : Type 0 where
   pub a : Option Satellite
   pub b : Option Satellite
   pub c : Option Satellite
@@ -189,7 +189,7 @@ record Four (mk : (a b c d : Option Satellite) → Gsv) (l : List ℕ) (r : Gsv)
   pub bytes : length (entriesText (keep a (keep b (keep c (keep d []))))) ≤ length l
 
 four-eats : (mk : (a b c d : Option Satellite) → Gsv) (l : List ℕ) {r : Gsv} {m : List ℕ}
-    → (opt entry >>= (λ a. opt entry >>= (λ b. opt entry >>= (λ c. opt entry >>= (λ d. pure (mk a b c d)))))) l ≡ got r m → Four mk l r
+    → (opt entry >>= (λ a. opt entry >>= (λ b. opt entry >>= (λ c. opt entry >>= (λ d. pure (mk a b c d)))))) l ≡ got r m → FourRead mk l r
 four-eats mk l e =
     let e₁ = unbind (opt entry) _ l e in
     let e₂ = unbind (opt entry) _ (e₁ .between) (e₁ .then) in

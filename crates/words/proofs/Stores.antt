@@ -53,6 +53,10 @@ no-room ws out h = sym (ap (λ (b : Bool). cond b (ws ++ drop wordCount out) out
 pub told : {A : Type 0} (w : A → List ℕ) (l : List ℕ) (at : ℕ) {x y : A} → x ≡ y → sets l at (w y) ≡ sets l at (w x)
 told w l at e = sym (ap (λ x. sets l at (w x)) e)
 
+-- and what was put is the words of the value
+pub as-told : {A : Type 0} (w : A → List ℕ) (l : List ℕ) (at : ℕ) {o : List ℕ} {x y : A} → x ≡ y → o ≡ sets l at (w y) → o ≡ sets l at (w x)
+as-told w l at e f = f ∙ told w l at e
+
 -- one zero more
 pub one-zero : (l m : List ℕ) (at i : ℕ) → m ≡ sets l at (zeros i) → set m (at + i) 0 ≡ sets l at (zeros (i + 1))
 one-zero l m at i e = behind l m (set m (at + i) 0) (zeros i) (0 ∷ []) at (at + i) e (ap (λ (n : ℕ). at + n) (length-replicate {A = ℕ} i 0)) refl ∙ ap (sets l at) (one-more i)

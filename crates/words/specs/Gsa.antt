@@ -12,7 +12,7 @@ use Prim.Native.Nat.{ℕ}
 use mathlib.Core.List.{List, _∷_, _++_}
 use mathlib.Core.Option.{Option, Option·getD}
 use lib.ListN.{length}
-use Rattle.gsa.specs.Gsa.{Dops}
+use Rattle.gsa.specs.Gsa.{kept, Dops}
 use Rattle.answer.specs.Sentence.{GsaSentence}
 use Rattle.words.specs.Part.{zeros, padded, dopsWords}
 
@@ -23,7 +23,7 @@ gsaHead talker mode fix system dops =
 
 -- 19 and on
 abbrev pub gsaTail : ℕ → List ℕ → List ℕ
-gsaTail count satellites = count ∷ (padded 18 satellites ++ zeros 2)
+gsaTail count satellites = count ∷ (padded kept satellites ++ zeros 2)
 
 abbrev pub gsaWords : GsaSentence → List ℕ
 gsaWords g =

@@ -5,9 +5,10 @@ ghost use mathlib.Core.Path.{_≡_};
 ghost use Prim.Native.Nat.{_≤_};
 ghost use lib.ListN.{length};
 ghost use lib.Seq.{sets};
+ghost use Rattle.gsa.specs.Gsa.{kept};
 ghost use Rattle.gsa.specs.Answer.{dopsOf, system};
 ghost use Rattle.words.specs.Part.{padded, dopsWords};
-ghost use Rattle.words.specs.Words.{into};
+ghost use Rattle.words.specs.Words.{wordCount, into};
 ghost use Rattle.words.specs.Answer.{gsaRow};
 use crate::WORDS;
 use crate::part;
@@ -42,7 +43,7 @@ fn system_word(s: System) -> u64
 
 // Mode, fix, system and dilutions.
 fn put_fields(out: &mut [u64], head: GsaHead)
-    requires { ⌜ 40 ≤ length (now out) ⌝ }
+    requires { ⌜ wordCount ≤ length (now out) ⌝ }
     ensures { λ _. ⌜ now (out .exit) ≡ sets (now (out .entry)) 3 (head .mode ∷ head .fix ∷ Option·getD (system (head .system)) 0 ∷ dopsWords (dopsOf (head .dops))) ⌝ }
 {
     let system = head.system;
@@ -55,8 +56,8 @@ fn put_fields(out: &mut [u64], head: GsaHead)
 
 // The cells of the satellites.
 fn put_cells(out: &mut [u64], cells: [u32; gsa::SATELLITES])
-    requires { ⌜ 40 ≤ length (now out) ⌝ }
-    ensures { λ _. ⌜ now (out .exit) ≡ sets (now (out .entry)) 20 (padded 18 cells) ⌝ }
+    requires { ⌜ wordCount ≤ length (now out) ⌝ }
+    ensures { λ _. ⌜ now (out .exit) ≡ sets (now (out .entry)) 20 (padded kept cells) ⌝ }
 {
     let mut i = 0;
     while i < gsa::SATELLITES {

@@ -5,7 +5,7 @@ ghost use lib.ListN.{length};
 ghost use lib.Seq.{sets};
 ghost use Rattle.gsv.specs.Answer.{slot, gsvData, gsvSentence};
 ghost use Rattle.words.specs.Gsv.{entryWords, entriesWords, gsvWords};
-ghost use Rattle.words.specs.Words.{into};
+ghost use Rattle.words.specs.Words.{wordCount, into};
 use crate::WORDS;
 use crate::part;
 use gsv::GsvData;
@@ -57,7 +57,7 @@ fn put_entry(out: &mut [u64], at: usize, s: Slot)
 
 // The four entries.
 fn put_entries(out: &mut [u64], g: GsvData)
-    requires { ⌜ 40 ≤ length (now out) ⌝ }
+    requires { ⌜ wordCount ≤ length (now out) ⌝ }
     ensures { λ _. ⌜ now (out .exit) ≡ sets (now (out .entry)) 7 (entriesWords (gsvData g)) ⌝ }
 {
     let first = g.first;

@@ -11,6 +11,7 @@ ghost use Rattle.fields.specs.Answer.{timeHeld, dateHeld, coordinate, positionH
 ghost use Rattle.frame.specs.Answer.{letters};
 ghost use Rattle.gsa.specs.Answer.{dopsOf};
 ghost use Rattle.words.specs.Part.{zeros, sign, optionWords, timeWords, dateWords, coordinateWords, positionWords, dopWords, shortWords, dopsWords};
+ghost use Rattle.words.specs.Words.{wordCount};
 use decimal::ShortDecimal;
 use fields::Coordinate;
 use fields::DateHeld;
@@ -88,7 +89,7 @@ pub(crate) fn put_four(out: &mut [u64], at: usize, a: u64, b: u64, c: u64, d: u6
 
 // What follows, and who sent it.
 pub(crate) fn put_head(out: &mut [u64], kind: u64, first: u8, second: u8)
-    requires { ⌜ 40 ≤ length (now out) ⌝ }
+    requires { ⌜ wordCount ≤ length (now out) ⌝ }
     ensures { λ _. ⌜ now (out .exit) ≡ sets (now (out .entry)) 0 (kind ∷ first ∷ second ∷ []) ⌝ }
 {
     out[KIND] = kind;

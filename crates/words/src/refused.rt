@@ -7,7 +7,7 @@ ghost use lib.Seq.{sets};
 ghost use Rattle.frame.specs.Answer.{letters, refused};
 ghost use Rattle.words.specs.Part.{zeros};
 ghost use Rattle.words.specs.Refused.{carriedWords, refusedWords};
-ghost use Rattle.words.specs.Words.{into};
+ghost use Rattle.words.specs.Words.{wordCount, into};
 use crate::WORDS;
 use crate::part;
 use frame::Kind;
@@ -30,7 +30,7 @@ const LETTERS: u64 = 6;
 
 // Up to two values, and zeros behind them.
 fn put_values(out: &mut [u64], count: u64, first: u64, second: u64)
-    requires { ⌜ 40 ≤ length (now out) ⌝ }
+    requires { ⌜ wordCount ≤ length (now out) ⌝ }
     ensures { λ _. ⌜ now (out .exit) ≡ sets (now (out .entry)) 2 (count ∷ first ∷ second ∷ zeros 35) ⌝ }
 {
     out[COUNT] = count;
@@ -40,7 +40,7 @@ fn put_values(out: &mut [u64], count: u64, first: u64, second: u64)
 
 // Two types, and zeros behind them.
 fn put_types(out: &mut [u64], expected: Kind, found: Kind)
-    requires { ⌜ 40 ≤ length (now out) ⌝ }
+    requires { ⌜ wordCount ≤ length (now out) ⌝ }
     ensures { λ _. ⌜ now (out .exit) ≡ sets (now (out .entry)) 2 (6 ∷ (letters expected ++ (letters found ++ zeros 31))) ⌝ }
 {
     out[COUNT] = LETTERS;
@@ -51,7 +51,7 @@ fn put_types(out: &mut [u64], expected: Kind, found: Kind)
 
 // How many values a refusal carries, the values, and zeros behind them.
 fn put_carried(out: &mut [u64], why: Refusal)
-    requires { ⌜ 40 ≤ length (now out) ⌝ }
+    requires { ⌜ wordCount ≤ length (now out) ⌝ }
     ensures { λ _. ⌜ now (out .exit) ≡ sets (now (out .entry)) 2 (carriedWords (refused why .carries) ++ zeros 31) ⌝ }
 {
     match why {

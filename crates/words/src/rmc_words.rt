@@ -6,7 +6,7 @@ ghost use lib.ListN.{length};
 ghost use lib.Seq.{sets};
 ghost use Rattle.rmc.specs.Answer.{letterHeld, fixOf, motionOf, endingOf};
 ghost use Rattle.words.specs.Rmc.{fixWords, motionWords, endingWords, rmcWords};
-ghost use Rattle.words.specs.Words.{into};
+ghost use Rattle.words.specs.Words.{wordCount, into};
 ghost use Rattle.words.specs.Answer.{rmcSentence};
 use crate::WORDS;
 use crate::part;
@@ -50,7 +50,7 @@ fn letter_word(l: LetterHeld) -> u64
 
 // Time, status and position.
 fn put_fix(out: &mut [u64], fix: Fix)
-    requires { ⌜ 40 ≤ length (now out) ⌝ }
+    requires { ⌜ wordCount ≤ length (now out) ⌝ }
     ensures { λ _. ⌜ now (out .exit) ≡ sets (now (out .entry)) 3 (fixWords (fixOf fix)) ⌝ }
 {
     let time = fix.time;
@@ -62,7 +62,7 @@ fn put_fix(out: &mut [u64], fix: Fix)
 
 // Speed, course and date.
 fn put_motion(out: &mut [u64], motion: Motion)
-    requires { ⌜ 40 ≤ length (now out) ⌝ }
+    requires { ⌜ wordCount ≤ length (now out) ⌝ }
     ensures { λ _. ⌜ now (out .exit) ≡ sets (now (out .entry)) 18 (motionWords (motionOf motion)) ⌝ }
 {
     let speed = motion.speed;
@@ -75,7 +75,7 @@ fn put_motion(out: &mut [u64], motion: Motion)
 
 // Variation, mode and navigational status.
 fn put_ending(out: &mut [u64], ending: Ending)
-    requires { ⌜ 40 ≤ length (now out) ⌝ }
+    requires { ⌜ wordCount ≤ length (now out) ⌝ }
     ensures { λ _. ⌜ now (out .exit) ≡ sets (now (out .entry)) 32 (endingWords (endingOf ending)) ⌝ }
 {
     let variation = ending.variation;

@@ -13,7 +13,7 @@ returns : tie.Need-returns
 returns c = (no-room (now (c .before .before .before .args .line)) (now (c .before .before .before .args .out)) (c .if1 .taken), refl)
 
 returns-2 : tie.Need-returns-2
-returns-2 c = (written (now (c .before .before .before .before .before .before .before .before .args .line)) (now (c .before .before .before .before .before .before .before .before .args .out)) (c .before .before .before .before .parse-bytes .result) _ (c .before .before .before .before .before .if1 .left) (c .before .before .before .before .parse-bytes .ensures .0) (c .before .before .put .ensures), refl)
+returns-2 c = (written (now (c .before .before .before .before .before .before .before .before .args .line)) (now (c .before .before .before .before .before .before .before .before .args .out)) (c .before .before .before .before .parse-bytes .result) _ (c .before .before .before .before .before .if1 .left) (c .before .before .before .before .parse-bytes .ensures .0) (c .before .before .put-answer .ensures), refl)
 
 pub nmea-answer-spec : {M : Type 1} → statement M
 nmea-answer-spec = tie.close (tie.spec returns

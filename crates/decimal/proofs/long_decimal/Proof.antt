@@ -6,7 +6,7 @@ use mathlib.Core.Path.{refl, ap}
 use Rattle.text.proofs.Places.{go, fail, done}
 use Rattle.decimal.specs.Decimal.{long}
 use Rattle.decimal.specs.Places.{longDecimal}
-use Rattle.decimal.specs.Answer.{found}
+use Rattle.decimal.specs.Answer.{decimalAt}
 use Rattle.decimal.proofs.Power.{capped, minutes-lt}
 use Rattle.decimal.proofs.Bounds.{held}
 use borrow.Author.Needs.{needs}
@@ -30,7 +30,7 @@ nearest-f64-requires c κs =
 
 returns : tie.Need-returns
 unfolding longDecimal
-returns c = (go _ (c .before .before .before .decimal .ensures .0) (ap found (c .before .p .given .1)) (done _ _ _), refl)
+returns c = (go _ (c .before .before .before .decimal .ensures .0) (ap decimalAt (c .before .p .given .1)) (done _ _ _), refl)
 
 returns-2 : tie.Need-returns-2
 unfolding longDecimal
@@ -38,11 +38,11 @@ returns-2 c =
     let t = c .before .before .before .before .before .decimal .ensures .0 in
     let e = c .before .before .before .n .given .1 in
     let k = c .before .before .before .n .given .0 .1 .0 in
-    (rw (capped (9 - k) (omega arith) (c .before .pow10 .ensures), c .nearest-f64 .ensures) (go _ t (ap found e) (done _ _ _)), refl)
+    (rw (capped (9 - k) (omega arith) (c .before .pow10 .ensures), c .nearest-f64 .ensures) (go _ t (ap decimalAt e) (done _ _ _)), refl)
 
 returns-3 : tie.Need-returns-3
 unfolding longDecimal
-returns-3 c = (fail _ (c .before .before .decimal .ensures .0) (ap found (c .enum-told .given .1)), refl)
+returns-3 c = (fail _ (c .before .before .decimal .ensures .0) (ap decimalAt (c .enum-told .given .1)), refl)
 
 pub long-decimal-spec : {M : Type 1} → statement M
 long-decimal-spec =

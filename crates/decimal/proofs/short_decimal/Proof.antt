@@ -9,7 +9,7 @@ use mathlib.Core.Path.{_≡_, refl, ap}
 use Rattle.text.proofs.Places.{go, fail, done}
 use Rattle.decimal.specs.Decimal.{short}
 use Rattle.decimal.specs.Places.{shortDecimal}
-use Rattle.decimal.specs.Answer.{found}
+use Rattle.decimal.specs.Answer.{decimalAt}
 use Rattle.decimal.proofs.Bounds.{held}
 use borrow.Author.Needs.{needs}
 use Rattle.decimal.proofs.short_decimal.Statement.{statement}
@@ -29,7 +29,7 @@ cast-whole c =
 
 returns : tie.Need-returns
 unfolding shortDecimal
-returns c = (go _ (c .before .before .before .decimal .ensures .0) (ap found (c .before .p .given .1)) (done _ _ _), refl)
+returns c = (go _ (c .before .before .before .decimal .ensures .0) (ap decimalAt (c .before .p .given .1)) (done _ _ _), refl)
 
 returns-2 : tie.Need-returns-2
 unfolding shortDecimal
@@ -39,11 +39,11 @@ returns-2 c =
     let n = c .before .before .n .given .0 .0 in
     let small = held short t e .small in
     let whole : toZ w32 n ≡ pos n = toZ-pos w32 (omega arith) in
-    (rw (whole, c .nearest-f32 .ensures) (go _ t (ap found e) (done _ _ _)), refl)
+    (rw (whole, c .nearest-f32 .ensures) (go _ t (ap decimalAt e) (done _ _ _)), refl)
 
 returns-3 : tie.Need-returns-3
 unfolding shortDecimal
-returns-3 c = (fail _ (c .before .before .decimal .ensures .0) (ap found (c .enum-told .given .1)), refl)
+returns-3 c = (fail _ (c .before .before .decimal .ensures .0) (ap decimalAt (c .enum-told .given .1)), refl)
 
 pub short-decimal-spec : {M : Type 1} → statement M
 short-decimal-spec =

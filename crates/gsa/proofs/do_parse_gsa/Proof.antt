@@ -57,9 +57,9 @@ led c u =
 returns-5 : tie.Need-returns-5
 unfolding rest
 returns-5 c =
-    let v = c .before .before in
+    let v = c .before .before .before in
     let e = v .before .before in (
-      empty-answer (v .system .given .0 .1 .0) (c .without5 .ensures)
+      empty-answer (v .system .given .0 .1 .0) (c .before .head-of .ensures) (c .without5 .ensures)
           (led (e .before) (go-empty _ _ (v .system .given .1) (e .empty-tail .ensures .0) (done _ _ _))),
       refl,
     )
@@ -89,10 +89,10 @@ returns-7 c =
 returns-8 : tie.Need-returns-8
 unfolding rest
 returns-8 c =
-    let a = c .before in
+    let a = c .before .before in
     let f = a .before .before .before in
     let e = f .before .before .before in (
-      full-answer _ _ _ (a .answer .given .0 .1 .1 .1 .1 .0) (f .full-tail .ensures .1)
+      full-answer _ _ (a .answer .given .0 .1 .1 .1 .1 .0) (c .head-of2 .ensures) (f .full-tail .ensures .1)
           (led (e .before)
           (go-tail _ _ (f .full-tail .result) (f .before .enum-told5 .given .1) (a .answer .given .1) (e .empty-tail .ensures .0) (f .full-tail .ensures .0)
           (done _ _ _))),
@@ -126,6 +126,7 @@ do-parse-gsa-spec =
     (λ c κs. search needs)
     (λ c. search needs)
     (λ c κs. search needs)
+    (λ c κs. search needs)
     returns-5
     (λ c. search needs)
     (λ c κs. search needs)
@@ -134,6 +135,7 @@ do-parse-gsa-spec =
     (λ c. search needs)
     (λ c κs. search needs)
     (λ c. search needs)
+    (λ c κs. search needs)
     returns-6
     returns-7
     returns-8)

@@ -2,7 +2,7 @@
 use mathlib.Core.Path.{sym, subst}
 use mathlib.Core.List.{[]}
 use denote.Ref.{now}
-use Rattle.fed.specs.Line.{gsvOf}
+use Rattle.fed.specs.Line.{acceptedGsv}
 use Rattle.log.specs.declared.line.Line.{Line}
 use Rattle.log.specs.Answer.{lineIn, Follows}
 use borrow.Author.Needs.{needs}

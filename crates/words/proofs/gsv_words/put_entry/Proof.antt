@@ -9,19 +9,11 @@ use Rattle.gsv.specs.Answer.{slot}
 use Rattle.gsv.specs.declared.Slot.{Slot}
 use Rattle.words.specs.Part.{optionWords}
 use Rattle.words.specs.Gsv.{entryWords}
-use Rattle.words.proofs.Stores.{four, told}
+use Rattle.words.proofs.Stores.{four, as-told, told}
 use Rattle.words.proofs.Lengths.{option-two}
 use borrow.Author.Needs.{needs}
 use Rattle.words.proofs.gsv_words.put_entry.Statement.{statement}
 use Rattle.words.proofs.gsv_words.put_entry.Tie as tie
-
-returns : tie.Need-returns
-returns c =
-    let c₁ = c .before .before in
-    let c₂ = c₁ .before .before in
-    let c₃ = c₂ .before .before .before in
-    let a = c₃ .args in
-    c₁ .put-zeros .ensures ∙ told (λ (x : Slot). entryWords (slot x)) (now (a .out)) (a .at) (c₂ .enum-told .given .1)
 
 returns-2 : tie.Need-returns-2
 returns-2 c =
@@ -56,6 +48,6 @@ put-entry-spec =
     (λ c. search needs)
     (λ c κs. search needs)
     (λ c. search needs)
-    returns
+    (λ c. search (as-told (λ (x : Slot). entryWords (slot x))))
     (λ c. search needs)
     returns-2)

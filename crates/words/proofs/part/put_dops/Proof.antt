@@ -9,7 +9,7 @@ use Rattle.decimal.specs.Answer.{aShort}
 use Rattle.gsa.specs.Answer.{dopsOf}
 use Rattle.gsa.specs.declared.Dops.{Dops}
 use Rattle.words.specs.Part.{dopWords, dopsWords}
-use Rattle.words.proofs.Stores.{four, told}
+use Rattle.words.proofs.Stores.{four, as-told, told}
 use borrow.Author.Needs.{needs}
 use Rattle.words.proofs.part.put_dops.Statement.{statement}
 use Rattle.words.proofs.part.put_dops.Tie as tie
@@ -22,14 +22,6 @@ put-dop-requires-2 c κs = omega (arith, simp length-set at (c .before .before .
 
 put-dop-requires-3 : tie.Need-put-dop-requires-3
 put-dop-requires-3 c κs = omega (arith, simp length-set at (c .before .before .before .before .before .before .out2 .given))
-
-returns : tie.Need-returns
-returns c =
-    let c₁ = c .before .before in
-    let c₂ = c₁ .before .before in
-    let c₃ = c₂ .before .before .before in
-    let a = c₃ .args in
-    c₁ .put-zeros .ensures ∙ told (λ (x : Dops). dopsWords (dopsOf x)) (now (a .out)) (a .at) (c₂ .enum-told .given .1)
 
 same-length-2 : tie.Need-same-length-2
 same-length-2 c =
@@ -73,6 +65,6 @@ put-dops-spec =
     (λ c. search needs)
     put-dop-requires-3
     (λ c. search needs)
-    returns
+    (λ c. search (as-told (λ (x : Dops). dopsWords (dopsOf x))))
     same-length-2
     returns-2)

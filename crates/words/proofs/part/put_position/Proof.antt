@@ -8,7 +8,7 @@ use lib.ListN.{set, length-set}
 use Rattle.fields.specs.Answer.{coordinate, positionHeld}
 use Rattle.fields.specs.declared.position.PositionHeld.{PositionHeld}
 use Rattle.words.specs.Part.{coordinateWords, positionWords}
-use Rattle.words.proofs.Stores.{behind, told}
+use Rattle.words.proofs.Stores.{behind, as-told, told}
 use borrow.Author.Needs.{needs}
 use Rattle.words.proofs.part.put_position.Statement.{statement}
 use Rattle.words.proofs.part.put_position.Tie as tie
@@ -24,14 +24,6 @@ put-coordinate-requires-2 c κs =
     let c₂ = c₁ .before .before .before .before .before .before .before in
     let a = c₂ .args in
     omega (arith, c₁ .out2 .given, length-set (now (a .out)) (a .at) 1)
-
-returns : tie.Need-returns
-returns c =
-    let c₁ = c .before .before in
-    let c₂ = c₁ .before .before in
-    let c₃ = c₂ .before .before .before in
-    let a = c₃ .args in
-    c₁ .put-zeros .ensures ∙ told (λ (x : PositionHeld). positionWords (positionHeld x)) (now (a .out)) (a .at) (c₂ .enum-told .given .1)
 
 same-length-2 : tie.Need-same-length-2
 same-length-2 c =
@@ -70,6 +62,6 @@ put-position-spec =
     (λ c. search needs)
     put-coordinate-requires-2
     (λ c. search needs)
-    returns
+    (λ c. search (as-told (λ (x : PositionHeld). positionWords (positionHeld x))))
     same-length-2
     returns-2)

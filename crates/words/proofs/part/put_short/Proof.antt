@@ -9,7 +9,7 @@ use Rattle.decimal.specs.Answer.{aShort}
 use Rattle.fields.specs.Answer.{shortHeld}
 use Rattle.fields.specs.declared.place.ShortHeld.{ShortHeld}
 use Rattle.words.specs.Part.{dopWords, shortWords}
-use Rattle.words.proofs.Stores.{behind, told}
+use Rattle.words.proofs.Stores.{behind, as-told, told}
 use borrow.Author.Needs.{needs}
 use Rattle.words.proofs.part.put_short.Statement.{statement}
 use Rattle.words.proofs.part.put_short.Tie as tie
@@ -18,14 +18,6 @@ put-dop-requires : tie.Need-put-dop-requires
 put-dop-requires c κs =
     let a = c .before .before .before .before .before .args in
     omega (arith, length-set (now (a .out)) (a .at) 1)
-
-returns : tie.Need-returns
-returns c =
-    let c₁ = c .before .before in
-    let c₂ = c₁ .before .before in
-    let c₃ = c₂ .before .before .before in
-    let a = c₃ .args in
-    c₁ .put-zeros .ensures ∙ told (λ (x : ShortHeld). shortWords (shortHeld x)) (now (a .out)) (a .at) (c₂ .enum-told .given .1)
 
 same-length-2 : tie.Need-same-length-2
 same-length-2 c =
@@ -56,6 +48,6 @@ put-short-spec =
     (λ c. search needs)
     put-dop-requires
     (λ c. search needs)
-    returns
+    (λ c. search (as-told (λ (x : ShortHeld). shortWords (shortHeld x))))
     same-length-2
     returns-2)

@@ -8,7 +8,7 @@ use lib.ListN.{length-set}
 use Rattle.fields.specs.Answer.{timeHeld}
 use Rattle.fields.specs.declared.time.TimeHeld.{TimeHeld}
 use Rattle.words.specs.Part.{timeWords}
-use Rattle.words.proofs.Stores.{behind, told}
+use Rattle.words.proofs.Stores.{behind, as-told, told}
 use borrow.Author.Needs.{needs}
 use Rattle.words.proofs.part.put_time.Statement.{statement}
 use Rattle.words.proofs.part.put_time.Tie as tie
@@ -17,14 +17,6 @@ put-four-requires : tie.Need-put-four-requires
 put-four-requires c κs =
     let a = c .before .before .before .before .before .before .before .before .before .args in
     omega (arith, length-set (now (a .out)) (a .at) 1)
-
-returns : tie.Need-returns
-returns c =
-    let c₁ = c .before .before in
-    let c₂ = c₁ .before .before in
-    let c₃ = c₂ .before .before .before in
-    let a = c₃ .args in
-    c₁ .put-zeros .ensures ∙ told (λ (x : TimeHeld). timeWords (timeHeld x)) (now (a .out)) (a .at) (c₂ .enum-told .given .1)
 
 same-length-2 : tie.Need-same-length-2
 same-length-2 c =
@@ -59,6 +51,6 @@ put-time-spec =
     (λ c. search needs)
     put-four-requires
     (λ c. search needs)
-    returns
+    (λ c. search (as-told (λ (x : TimeHeld). timeWords (timeHeld x))))
     same-length-2
     returns-2)

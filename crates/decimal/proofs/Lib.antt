@@ -2,6 +2,7 @@ pub mod Power
 pub mod Exact
 pub mod Runs
 pub mod Decimals
+pub mod Cases
 pub mod Bounds
 pub mod Steps
 pub mod Facts

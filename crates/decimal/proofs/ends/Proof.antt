@@ -1,3 +1,4 @@
+-- `ends` meets its contract: past the end nothing is left, and within it a comma ends the place. Assumes nothing.
 use mathlib.Core.Path.{refl}
 use Rattle.text.proofs.Places.{here, ended}
 use borrow.Author.Needs.{needs}

@@ -1,3 +1,4 @@
+-- `run` meets its contract: at the loop's head, the run from there on with what was counted is the whole run. Assumes nothing.
 use Prim.Native.Nat.{_+_, _-_, _*_, _^_, _≤_, _<_, max}
 use native.Mathlib.Omega.{arith}
 use mathlib.Core.Path.{_≡_, refl, _∙_}

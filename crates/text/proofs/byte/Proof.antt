@@ -1,3 +1,4 @@
+-- `byte` meets its contract: past the end nothing stands, and within it the byte at the place is the one that the reader sees first. Assumes nothing.
 use mathlib.Core.Path.{refl}
 -- `read::byte` meets its contract. Assumes nothing.
 use Rattle.text.specs.Reader.{char}

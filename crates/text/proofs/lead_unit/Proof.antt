@@ -1,3 +1,4 @@
+-- `lead_unit` meets its contract: `+` counts nothing, and any other byte what `unit` says. Assumes nothing.
 use borrow.Author.Tests.{eq-eqb, ne-eqb}
 use borrow.Author.Needs.{needs}
 use Rattle.text.proofs.lead_unit.Statement.{statement}

@@ -1,3 +1,4 @@
+-- `one_of` meets its contract: the byte at the place is tried against the two letters in the order of the definition. Assumes nothing.
 use denote.Ref.{now}
 use mathlib.Core.Path.{refl}
 use native.Mathlib.Omega.{arith}

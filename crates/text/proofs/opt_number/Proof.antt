@@ -1,4 +1,4 @@
--- `read::opt_number` meets its contract. Assumes nothing.
+-- `opt_number` meets its contract: what `number` reads is held, and where it does not match the place stays. Assumes nothing.
 use borrow.Author.Needs.{needs}
 use mathlib.Core.Path.{refl, ap}
 use Rattle.text.specs.Answer.{wholeAt}

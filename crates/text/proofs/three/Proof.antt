@@ -1,3 +1,4 @@
+-- `three` meets its contract: as for two bytes, and a number above 255 does not match. Assumes nothing.
 use denote.Ref.{now}
 use mathlib.Core.Path.{refl}
 use native.Mathlib.Omega.{arith}

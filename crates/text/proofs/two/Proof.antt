@@ -1,3 +1,4 @@
+-- `two` meets its contract: where two bytes are left, each is a digit or more than nine, as `Fixed` has it of the definition. Assumes nothing.
 use denote.Ref.{now}
 use mathlib.Core.Path.{refl}
 use native.Mathlib.Omega.{arith}

@@ -1,4 +1,4 @@
--- `read::until` meets its contract. Assumes nothing.
+-- `until` meets its contract: none of the bytes passed so far is the one that is looked for, so the first that is ends the text. Assumes nothing.
 use Prim.Native.Nat.{_≤_, _-_, max}
 use native.Mathlib.Omega.{arith}
 use mathlib.Core.Path.{_≡_, refl, _∙_}

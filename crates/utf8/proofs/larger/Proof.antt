@@ -1,4 +1,4 @@
--- `utf8::larger` meets its contract. Assumes nothing.
+-- `larger` meets its contract: it is one of the two, and no less than either. Assumes nothing.
 use native.Mathlib.Omega.{arith}
 use Rattle.utf8.proofs.larger.Statement.{statement}
 use Rattle.utf8.proofs.larger.Tie as tie

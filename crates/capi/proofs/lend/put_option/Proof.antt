@@ -1,4 +1,4 @@
--- `put_option` meets its contract. Assumes nothing.
+-- `put_option` meets its contract: the word of what is absent has two zeros, any other a 1 before it. Assumes nothing.
 use native.Mathlib.Omega.{arith}
 use denote.Ref.{now}
 use lib.ListN.{length-set}

@@ -1,4 +1,4 @@
--- `saw` meets its contract. Assumes nothing.
+-- `saw` meets its contract: it says no only where none was seen before and this byte is none. Assumes nothing.
 use Prim.Native.Nat.{ℕ}
 use native.Mathlib.Omega.{arith}
 use mathlib.Core.Path.{_≡_}

@@ -24,13 +24,16 @@ use Rattle.gather.specs.Words.{cellCount, numberOf, satAt, satsFrom}
 use Rattle.gather.specs.Table.{tableWords, freshTable, rowOf, Gathers}
 use Rattle.gather.specs.declared.line.Outcome.{Outcome}
 use Rattle.gather.specs.declared.line.Outcome.the-variants.{Complete}
-use Rattle.gather.proofs.Cells.{sets-append, sats-append}
+use Rattle.text.proofs.Stores.{behind, three, four}
+use Rattle.gather.proofs.Cells.{sats-append}
 use Rattle.gather.proofs.Quick.{sats-long}
 use Rattle.gather.proofs.Tables.{number-within}
 use Rattle.fed.specs.Line.{gathers}
 use Rattle.words.specs.Part.{zeros, optionWords}
 use Rattle.words.specs.Gsv.{entryWords}
 use Rattle.words.specs.Words.{wordCount, words, into}
+use Rattle.words.proofs.Lengths.{option-two, entry-eight}
+use Rattle.words.proofs.Stores.{one-zero as next-zero}
 use Rattle.capi.specs.Answer.{done, undone}
 use Rattle.capi.specs.Lend.{Freshened, code, lineCode, gsvIn, Taken, takes, GatheredLine, rowRoom, rowHead, entriesWords, rowRead, reads, RowRead}
 use Rattle.capi.specs.Code.{ReadAs}
@@ -138,10 +141,6 @@ pub put-known : (l : List ℕ) (at x : ℕ) → (x ≡ 4294967295 → ⊥) → s
 put-known l at x e =
     two-stored l at 1 x ∙ ap (λ (b : Bool). sets l at (optionWords (cond b none (some x)))) (sym (ne-eqb x 4294967295 e))
 
-option-two : (o : Option ℕ) → length (optionWords o) ≡ 2
-option-two none = refl
-option-two (some n) = refl
-
 -- stores change no length
 pub two-long : (l : List ℕ) (i a j b : ℕ) → length (set (set l i a) j b) ≡ length l
 two-long l i a j b = length-set (set l i a) j b ∙ length-set l i a
@@ -154,18 +153,8 @@ pub entry-stored : (l a b c d : List ℕ) (to id : ℕ) (e f g : Option ℕ) →
     → c ≡ sets b (to + 4) (optionWords f) → d ≡ sets c (to + 6) (optionWords g)
     → d ≡ sets l to (entryWords (some (record { id = id; elevation = e; azimuth = f; signal = g })))
 entry-stored l a b c d to id e f g ea eb ec ed =
-    ed
-    ∙ (λ j. sets (ec j) (to + 6) (optionWords g))
-    ∙ (λ j. sets (sets (eb j) (to + 4) (optionWords f)) (to + 6) (optionWords g))
-    ∙ (λ j. sets (sets (sets ((ea ∙ two-stored l to 1 id) j) (to + 2) (optionWords e)) (to + 4) (optionWords f)) (to + 6) (optionWords g))
-    ∙ (λ j. sets (sets (here (1 ∷ id ∷ []) (optionWords e) to 2 refl j) (to + 4) (optionWords f)) (to + 6) (optionWords g))
-    ∙ (λ j. sets (here (1 ∷ id ∷ optionWords e) (optionWords f) to 4 (let z = option-two e in omega arith) j) (to + 6) (optionWords g))
-    ∙ here (1 ∷ id ∷ (optionWords e ++ optionWords f)) (optionWords g) to 6
-    (let z = option-two e in let y = option-two f in omega (arith, length-append (optionWords e) (optionWords f)))
-    ∙ ap (λ (ws : List ℕ). sets l to (1 ∷ id ∷ ws)) (append-assoc (optionWords e) (optionWords f) (optionWords g))
-  where
-    here : (us vs : List ℕ) (i n : ℕ) → length us ≡ n → sets (sets l i us) (i + n) vs ≡ sets l i (us ++ vs)
-    here us vs i n h = ap (λ (k : ℕ). sets (sets l i us) (i + k) vs) (sym h) ∙ sym (sets-append us vs l i)
+    four l a b c d (1 ∷ id ∷ []) (optionWords e) (optionWords f) (optionWords g) to (to + 2) (to + 4) (to + 6)
+    (ea ∙ two-stored l to 1 id) refl eb (omega (arith, option-two e)) ec (omega (arith, option-two f)) ed
 
 -- the table while it is made fresh: the first i words are 0, and the others stand
 abbrev pub cleared : List ℕ → ℕ → List ℕ
@@ -199,17 +188,9 @@ not-cleared t n =
     record { table = sym (ap (λ (b : Bool). cond b freshTable t) b); says = sym (ap (λ (b : Bool). cond b done undone) b) }
 
 -- a row is read: its head, its entries one by one, and zeros
-entry-eight : (s : Satellite) → length (entryWords (some s)) ≡ 8
-entry-eight s =
-    let a = option-two (s .elevation) in
-    let b = option-two (s .azimuth) in
-    let c = option-two (s .signal) in
-    omega
-    (arith, length-append (optionWords (s .elevation)) (optionWords (s .azimuth) ++ optionWords (s .signal)), length-append (optionWords (s .azimuth)) (optionWords (s .signal)))
-
 entries-long : (es : List Satellite) → length (entriesWords es) ≡ length es * 8
 entries-long [] = refl
-entries-long (s ∷ es) = omega (arith, length-append (entryWords (some s)) (entriesWords es), entry-eight s, entries-long es)
+entries-long (s ∷ es) = omega (arith, length-append (entryWords (some s)) (entriesWords es), entry-eight (some s), entries-long es)
 
 entries-append : (a b : List Satellite) → entriesWords (a ++ b) ≡ entriesWords a ++ entriesWords b
 entries-append [] b = refl
@@ -223,30 +204,20 @@ entries-next i ws =
     ∙ sym (entries-append (satsFrom 0 i ws) (satAt ws i ∷ []))
     ∙ ap entriesWords (sym (sats-append 0 i 1 ws ∙ ap (λ (k : ℕ). satsFrom 0 i ws ++ (satAt ws k ∷ [])) z))
 
--- words stored behind others
-join : (l us vs : List ℕ) (i n : ℕ) → i + length us ≡ n → sets (sets l i us) n vs ≡ sets l i (us ++ vs)
-join l us vs i n h = ap (λ (k : ℕ). sets (sets l i us) k vs) (sym h) ∙ sym (sets-append us vs l i)
-
 wide : (i : ℕ) (ws : List ℕ) → length (entriesWords (satsFrom 0 i ws)) ≡ i * 8
 wide i ws = omega (arith, entries-long (satsFrom 0 i ws), sats-long 0 i ws)
 
 pub one-entry : (l m o ws : List ℕ) (i : ℕ) → m ≡ sets l 5 (entriesWords (satsFrom 0 i ws)) → o ≡ sets m (5 + i * 8) (entryWords (some (satAt ws i)))
     → o ≡ sets l 5 (entriesWords (satsFrom 0 (i + 1) ws))
 one-entry l m o ws i e f =
-    f
-    ∙ (λ j. sets (e j) (5 + i * 8) (entryWords (some (satAt ws i))))
-    ∙ join l (entriesWords (satsFrom 0 i ws)) (entryWords (some (satAt ws i))) 5 (5 + i * 8) (omega (arith, wide i ws))
+    behind l m o (entriesWords (satsFrom 0 i ws)) (entryWords (some (satAt ws i))) 5 (5 + i * 8) e (omega (arith, wide i ws)) f
     ∙ ap (sets l 5) (entries-next i ws)
 
 pub one-zero : (l m : List ℕ) (from j : ℕ) → from ≤ j → m ≡ sets l from (zeros (j - from)) → set m j 0 ≡ sets l from (zeros (j + 1 - from))
 one-zero l m from j h e =
-    let z : from + length (zeros (j - from)) ≡ j = omega (arith, length-replicate {A = ℕ} (j - from) 0) in
+    let z : j ≡ from + (j - from) = omega arith in
     let y : j - from + 1 ≡ j + 1 - from = omega arith in
-    (λ i. sets (e i) j (0 ∷ [])) ∙ join l (zeros (j - from)) (0 ∷ []) from j z ∙ ap (sets l from) (one-more (j - from) ∙ ap zeros y)
-  where
-    one-more : (k : ℕ) → zeros k ++ (0 ∷ []) ≡ zeros (k + 1)
-    one-more ℕ.zero = refl
-    one-more (suc k) = let z : suc (k + 1) ≡ suc k + 1 = omega arith in ap (λ (r : List ℕ). 0 ∷ r) (one-more k) ∙ ap zeros z
+    ap (λ (k : ℕ). set m k 0) z ∙ next-zero l m from (j - from) e ∙ ap (λ (n : ℕ). sets l from (zeros n)) y
 
 module _ (κ : ℕ) (ws out : List ℕ) (room : rowRoom ≤ length out) where
   pub too-many : cellCount < getD ws 3 0 → ReadAs ws κ out out undone
@@ -270,11 +241,7 @@ module _ (κ : ℕ) (ws out : List ℕ) (room : rowRoom ≤ length out) where
       in
       record {
         words =
-            ec
-            ∙ (λ j. sets (eb j) (5 + m * 8) zs)
-            ∙ join a es zs 5 (5 + m * 8) (omega arith)
-            ∙ (λ j. sets (ea j) 5 (es ++ zs))
-            ∙ join out (rowHead κ ws) (es ++ zs) 0 5 refl
+            three out a b c (rowHead κ ws) es zs 0 5 (5 + m * 8) ea refl eb (omega arith) ec
             ∙ sets-eq (rowRead κ ws) out 0 (omega arith)
             ∙ ap (λ (k : ℕ). rowRead κ ws ++ drop k out) long
             ∙ sym (ap (λ (b : Bool). cond b (rowRead κ ws ++ drop rowRoom out) out) test);

@@ -9,6 +9,7 @@ use lib.ListN.{length, getD, set, length-append, length-set}
 use lib.Seq.{sets, length-sets, getD-set-same, getD-set-other}
 use borrow.Author.Tests.{ne-eqb}
 use Rattle.text.specs.Answer.{held}
+use Rattle.text.proofs.Stores.{sets-append}
 use Rattle.gsv.specs.Gsv.{Satellite, keep}
 use Rattle.gsv.specs.Answer.{slot}
 use Rattle.gsv.specs.declared.SatInfo.{SatInfo}
@@ -34,12 +35,6 @@ inside (v ∷ vs) l i ℕ.zero h k =
 inside (v ∷ vs) l i (suc j) h k =
     let z : i + suc j ≡ suc i + j = omega arith in
     ap (λ (n : ℕ). getD (sets (set l i v) (suc i) vs) n 0) z ∙ inside vs (set l i v) (suc i) j (omega arith) (omega (arith, length-set l i v))
-
-pub sets-append : (us vs l : List ℕ) (i : ℕ) → sets l i (us ++ vs) ≡ sets (sets l i us) (i + length us) vs
-sets-append [] vs l i = let z : i ≡ i + 0 = omega arith in ap (λ (n : ℕ). sets l n vs) z
-sets-append (u ∷ us) vs l i =
-    let z : suc i + length us ≡ i + suc (length us) = omega arith in
-    sets-append us vs (set l i u) (suc i) ∙ ap (λ (n : ℕ). sets (sets (set l i u) (suc i) us) n vs) z
 
 pub flat-long : (es : List Satellite) → length (flat es) ≡ length es * 4
 flat-long [] = refl

@@ -8,3 +8,4 @@ pub mod Parts
 pub mod Fixed
 pub mod Texts
 pub mod Faults
+pub mod Stores

@@ -8,7 +8,7 @@ use lib.ListN.{length, take, getD, length-set}
 use lib.Seq.{sets, take-suc, take-all, length-take-le}
 use denote.Ref.{now}
 use Rattle.words.specs.Part.{padded}
-use Rattle.words.proofs.Stores.{behind}
+use Rattle.text.proofs.Stores.{behind}
 use Rattle.words.proofs.Lengths.{padded-all}
 use borrow.Author.Needs.{needs, elem-fits}
 use mir.Syntax.{w32, w64}

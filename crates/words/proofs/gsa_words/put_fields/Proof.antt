@@ -7,7 +7,7 @@ use lib.ListN.{length-set}
 use lib.Seq.{sets}
 use Rattle.gsa.specs.Answer.{dopsOf}
 use Rattle.words.specs.Part.{dopsWords}
-use Rattle.words.proofs.Stores.{behind}
+use Rattle.text.proofs.Stores.{behind}
 use borrow.Author.Needs.{needs}
 use Rattle.words.proofs.gsa_words.put_fields.Statement.{statement}
 use Rattle.words.proofs.gsa_words.put_fields.Tie as tie

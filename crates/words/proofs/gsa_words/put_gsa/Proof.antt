@@ -10,7 +10,8 @@ use Rattle.frame.specs.Answer.{talkerBytes}
 use Rattle.gsa.specs.Answer.{dopsOf, system}
 use Rattle.words.specs.Part.{zeros, padded, dopsWords}
 use Rattle.words.specs.Answer.{gsaRow}
-use Rattle.words.proofs.Stores.{five, whole, no-room}
+use Rattle.text.proofs.Stores.{five}
+use Rattle.words.proofs.Stores.{whole, no-room}
 use Rattle.words.proofs.Lengths.{padded-long, dops-thirteen, gsa-forty}
 use borrow.Author.Needs.{needs}
 use Rattle.words.proofs.gsa_words.put_gsa.Statement.{statement}

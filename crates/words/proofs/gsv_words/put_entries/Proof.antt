@@ -4,7 +4,7 @@ use mathlib.Core.Path.{ap}
 use denote.Ref.{now}
 use Rattle.gsv.specs.Answer.{slot}
 use Rattle.words.specs.Gsv.{entryWords}
-use Rattle.words.proofs.Stores.{four}
+use Rattle.text.proofs.Stores.{four}
 use Rattle.words.proofs.Lengths.{entry-eight}
 use borrow.Author.Needs.{needs}
 use Rattle.words.proofs.gsv_words.put_entries.Statement.{statement}

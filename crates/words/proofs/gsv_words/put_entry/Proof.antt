@@ -9,7 +9,8 @@ use Rattle.gsv.specs.Answer.{slot}
 use Rattle.gsv.specs.declared.Slot.{Slot}
 use Rattle.words.specs.Part.{optionWords}
 use Rattle.words.specs.Gsv.{entryWords}
-use Rattle.words.proofs.Stores.{four, as-told, told}
+use Rattle.text.proofs.Stores.{four}
+use Rattle.words.proofs.Stores.{as-told, told}
 use Rattle.words.proofs.Lengths.{option-two}
 use borrow.Author.Needs.{needs}
 use Rattle.words.proofs.gsv_words.put_entry.Statement.{statement}

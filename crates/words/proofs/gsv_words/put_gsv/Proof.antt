@@ -10,7 +10,8 @@ use Rattle.gsv.specs.Answer.{gsvData, gsvSentence}
 use Rattle.words.specs.Part.{zeros, padded}
 use Rattle.gsv.specs.Talker.{systemNumber}
 use Rattle.words.specs.Gsv.{entriesWords, gsvWords}
-use Rattle.words.proofs.Stores.{four, whole, no-room}
+use Rattle.text.proofs.Stores.{four}
+use Rattle.words.proofs.Stores.{whole, no-room}
 use Rattle.words.proofs.Lengths.{entries-all, gsv-forty}
 use borrow.Author.Needs.{needs}
 use Rattle.words.proofs.gsv_words.put_gsv.Statement.{statement}

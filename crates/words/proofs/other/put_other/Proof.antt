@@ -7,7 +7,8 @@ use Rattle.frame.specs.Answer.{letters}
 use Rattle.words.specs.Part.{zeros}
 use Rattle.words.specs.Other.{otherWords}
 use Rattle.words.specs.Answer.{otherSentence}
-use Rattle.words.proofs.Stores.{three, whole, no-room}
+use Rattle.text.proofs.Stores.{three}
+use Rattle.words.proofs.Stores.{whole, no-room}
 use Rattle.words.proofs.Lengths.{other-forty}
 use borrow.Author.Needs.{needs}
 use Rattle.words.proofs.other.put_other.Statement.{statement}

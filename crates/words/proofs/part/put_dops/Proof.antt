@@ -9,7 +9,8 @@ use Rattle.decimal.specs.Answer.{aShort}
 use Rattle.gsa.specs.Answer.{dopsOf}
 use Rattle.gsa.specs.declared.Dops.{Dops}
 use Rattle.words.specs.Part.{dopWords, dopsWords}
-use Rattle.words.proofs.Stores.{four, as-told, told}
+use Rattle.text.proofs.Stores.{four}
+use Rattle.words.proofs.Stores.{as-told, told}
 use borrow.Author.Needs.{needs}
 use Rattle.words.proofs.part.put_dops.Statement.{statement}
 use Rattle.words.proofs.part.put_dops.Tie as tie

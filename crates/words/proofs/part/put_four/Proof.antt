@@ -4,7 +4,7 @@ use mathlib.Core.Path.{refl}
 use mathlib.Core.List.{[], _∷_}
 use denote.Ref.{now}
 use borrow.Author.Needs.{needs}
-use Rattle.words.proofs.Stores.{behind}
+use Rattle.text.proofs.Stores.{behind}
 use Rattle.words.proofs.part.put_four.Statement.{statement}
 use Rattle.words.proofs.part.put_four.Tie as tie
 

@@ -8,7 +8,8 @@ use lib.ListN.{set, length-set}
 use Rattle.fields.specs.Answer.{coordinate, positionHeld}
 use Rattle.fields.specs.declared.position.PositionHeld.{PositionHeld}
 use Rattle.words.specs.Part.{coordinateWords, positionWords}
-use Rattle.words.proofs.Stores.{behind, as-told, told}
+use Rattle.text.proofs.Stores.{behind}
+use Rattle.words.proofs.Stores.{as-told, told}
 use borrow.Author.Needs.{needs}
 use Rattle.words.proofs.part.put_position.Statement.{statement}
 use Rattle.words.proofs.part.put_position.Tie as tie

@@ -9,7 +9,8 @@ use Rattle.decimal.specs.Answer.{aShort}
 use Rattle.fields.specs.Answer.{shortHeld}
 use Rattle.fields.specs.declared.place.ShortHeld.{ShortHeld}
 use Rattle.words.specs.Part.{dopWords, shortWords}
-use Rattle.words.proofs.Stores.{behind, as-told, told}
+use Rattle.text.proofs.Stores.{behind}
+use Rattle.words.proofs.Stores.{as-told, told}
 use borrow.Author.Needs.{needs}
 use Rattle.words.proofs.part.put_short.Statement.{statement}
 use Rattle.words.proofs.part.put_short.Tie as tie

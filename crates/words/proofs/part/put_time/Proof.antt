@@ -8,7 +8,8 @@ use lib.ListN.{length-set}
 use Rattle.fields.specs.Answer.{timeHeld}
 use Rattle.fields.specs.declared.time.TimeHeld.{TimeHeld}
 use Rattle.words.specs.Part.{timeWords}
-use Rattle.words.proofs.Stores.{behind, as-told, told}
+use Rattle.text.proofs.Stores.{behind}
+use Rattle.words.proofs.Stores.{as-told, told}
 use borrow.Author.Needs.{needs}
 use Rattle.words.proofs.part.put_time.Statement.{statement}
 use Rattle.words.proofs.part.put_time.Tie as tie

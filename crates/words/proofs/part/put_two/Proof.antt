@@ -6,7 +6,7 @@ use mathlib.Core.List.{[], _∷_}
 use denote.Ref.{now}
 use lib.ListN.{set, length-set}
 use borrow.Author.Needs.{needs}
-use Rattle.words.proofs.Stores.{behind}
+use Rattle.text.proofs.Stores.{behind}
 use Rattle.words.proofs.part.put_two.Statement.{statement}
 use Rattle.words.proofs.part.put_two.Tie as tie
 

@@ -3,7 +3,7 @@ use Prim.Native.Nat.{_+_}
 use mathlib.Core.Path.{refl}
 use mathlib.Core.List.{[], _∷_}
 use denote.Ref.{now}
-use Rattle.words.proofs.Stores.{behind}
+use Rattle.text.proofs.Stores.{behind}
 use borrow.Author.Needs.{needs}
 use Rattle.words.proofs.part.put_type.Statement.{statement}
 use Rattle.words.proofs.part.put_type.Tie as tie

@@ -8,7 +8,8 @@ use lib.Seq.{sets}
 use Rattle.frame.specs.Answer.{refused}
 use Rattle.words.specs.Part.{zeros}
 use Rattle.words.specs.Refused.{carriedWords, refusedWords}
-use Rattle.words.proofs.Stores.{behind, whole, no-room}
+use Rattle.text.proofs.Stores.{behind}
+use Rattle.words.proofs.Stores.{whole, no-room}
 use Rattle.words.proofs.Lengths.{refused-forty}
 use borrow.Author.Needs.{needs}
 use Rattle.words.proofs.refused.put_refused.Statement.{statement}

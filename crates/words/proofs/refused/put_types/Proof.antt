@@ -6,7 +6,7 @@ use denote.Ref.{now}
 use lib.ListN.{length-set}
 use Rattle.frame.specs.Answer.{letters}
 use Rattle.words.specs.Part.{zeros}
-use Rattle.words.proofs.Stores.{four}
+use Rattle.text.proofs.Stores.{four}
 use borrow.Author.Needs.{needs}
 use Rattle.words.proofs.refused.put_types.Statement.{statement}
 use Rattle.words.proofs.refused.put_types.Tie as tie

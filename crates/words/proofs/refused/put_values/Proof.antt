@@ -5,7 +5,7 @@ use mathlib.Core.List.{[], _∷_}
 use denote.Ref.{now}
 use lib.ListN.{length-set}
 use Rattle.words.specs.Part.{zeros}
-use Rattle.words.proofs.Stores.{three}
+use Rattle.text.proofs.Stores.{three}
 use borrow.Author.Needs.{needs}
 use Rattle.words.proofs.refused.put_values.Statement.{statement}
 use Rattle.words.proofs.refused.put_values.Tie as tie

@@ -8,7 +8,7 @@ use lib.ListN.{length-set}
 use lib.Seq.{sets}
 use Rattle.fields.specs.Answer.{shortHeld}
 use Rattle.words.specs.Part.{shortWords}
-use Rattle.words.proofs.Stores.{behind}
+use Rattle.text.proofs.Stores.{behind}
 use Rattle.words.proofs.Lengths.{short-five}
 use borrow.Author.Needs.{needs}
 use Rattle.words.proofs.rmc_words.put_ending.Statement.{statement}

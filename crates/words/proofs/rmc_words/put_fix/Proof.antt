@@ -7,7 +7,7 @@ use denote.Ref.{now}
 use lib.ListN.{length-set}
 use Rattle.fields.specs.Answer.{timeHeld, positionHeld}
 use Rattle.words.specs.Part.{timeWords, positionWords}
-use Rattle.words.proofs.Stores.{three}
+use Rattle.text.proofs.Stores.{three}
 use Rattle.words.proofs.Lengths.{time-five}
 use borrow.Author.Needs.{needs}
 use Rattle.words.proofs.rmc_words.put_fix.Statement.{statement}

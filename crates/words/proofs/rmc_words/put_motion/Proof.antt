@@ -4,7 +4,7 @@ use mathlib.Core.Path.{ap}
 use denote.Ref.{now}
 use Rattle.fields.specs.Answer.{dateHeld, shortHeld}
 use Rattle.words.specs.Part.{dateWords, shortWords}
-use Rattle.words.proofs.Stores.{three}
+use Rattle.text.proofs.Stores.{three}
 use Rattle.words.proofs.Lengths.{short-five}
 use borrow.Author.Needs.{needs}
 use Rattle.words.proofs.rmc_words.put_motion.Statement.{statement}

@@ -8,7 +8,8 @@ use Rattle.rmc.specs.Answer.{fixOf, motionOf, endingOf}
 use Rattle.words.specs.Part.{zeros}
 use Rattle.words.specs.Rmc.{fixWords, motionWords, endingWords, rmcWords}
 use Rattle.words.specs.Answer.{rmcSentence}
-use Rattle.words.proofs.Stores.{five, whole, no-room}
+use Rattle.text.proofs.Stores.{five}
+use Rattle.words.proofs.Stores.{whole, no-room}
 use Rattle.words.proofs.Lengths.{fix-fifteen, motion-fourteen, ending-seven, rmc-forty}
 use borrow.Author.Needs.{needs}
 use Rattle.words.proofs.rmc_words.put_rmc.Statement.{statement}

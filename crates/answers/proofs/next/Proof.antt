@@ -9,18 +9,6 @@ slice-aggregate-line-of : tie.Need-slice-aggregate-line-of
 slice-aggregate-line-of c = simp length-take (omega arith)
 
 pub next-spec : {M : Type 1} → statement M
-next-spec =
-    tie.close
-    (tie.spec
-    (λ c. search needs)
-    (λ c κs. search needs)
-    (λ c. search needs)
-    (λ c. search needs)
-    (λ c. search needs)
-    (λ c κs. search needs)
-    (λ c. search needs)
-    (λ c. search needs)
-    slice-aggregate-line-of
-    (λ c κs. search needs)
-    (λ c. search needs)
-    (λ c. search needs))
+next-spec = tie.close (tie.spec
+    (λ c. search needs) (λ c κs. search needs) (λ c. search needs) (λ c. search needs) (λ c. search needs) (λ c κs. search needs)
+    (λ c. search needs) (λ c. search needs) slice-aggregate-line-of (λ c κs. search needs) (λ c. search needs) (λ c. search needs))

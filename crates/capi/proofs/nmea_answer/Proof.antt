@@ -16,8 +16,4 @@ returns-2 : tie.Need-returns-2
 returns-2 c = (written (now (c .before .before .before .before .before .before .before .before .args .line)) (now (c .before .before .before .before .before .before .before .before .args .out)) (c .before .before .before .before .parse-bytes .result) _ (c .before .before .before .before .before .if1 .left) (c .before .before .before .before .parse-bytes .ensures .0) (c .before .before .put-answer .ensures), refl)
 
 pub nmea-answer-spec : {M : Type 1} → statement M
-nmea-answer-spec = tie.close (tie.spec returns
-    (λ c κs. search needs)
-    (λ c κs. search needs)
-    (λ c. search needs)
-    returns-2)
+nmea-answer-spec = tie.close (tie.spec returns (λ c κs. search needs) (λ c κs. search needs) (λ c. search needs) returns-2)

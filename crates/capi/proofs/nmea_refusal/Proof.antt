@@ -16,12 +16,5 @@ returns-2 c =
     (c .number .ensures)
 
 pub nmea-refusal-spec : {M : Type 1} → statement M
-nmea-refusal-spec =
-    tie.close
-    (tie.spec
-    (λ c κs. search needs)
-    (λ c. search needs)
-    (λ c. search needs)
-    (λ c κs. search needs)
-    returns
-    returns-2)
+nmea-refusal-spec = tie.close (tie.spec
+    (λ c κs. search needs) (λ c. search needs) (λ c. search needs) (λ c κs. search needs) returns returns-2)

@@ -94,29 +94,7 @@ returns-9 : tie.Need-returns-9
 returns-9 c = (junk-at _ _ _ (closed (c .before .before .before)) (sym (c .before .ends3 .ensures .0) ∙ c .if5 .left), refl)
 
 pub decimal-spec : {M : Type 1} → statement M
-decimal-spec =
-    tie.close
-    (tie.spec
-    (λ c κs. search needs)
-    returns
-    run-requires
-    (λ c. search needs)
-    (λ c. search needs)
-    returns-2
-    returns-3
-    (λ c κs. search needs)
-    returns-4
-    (λ c κs. search needs)
-    (λ c. search needs)
-    (λ c. search needs)
-    returns-5
-    sub-least
-    (λ c κs. search needs)
-    run-requires-2
-    (λ c. search needs)
-    (λ c. search needs)
-    returns-6
-    returns-7
-    (λ c κs. search needs)
-    returns-8
-    returns-9)
+decimal-spec = tie.close (tie.spec
+    (λ c κs. search needs) returns run-requires (λ c. search needs) (λ c. search needs) returns-2 returns-3 (λ c κs. search needs) returns-4
+    (λ c κs. search needs) (λ c. search needs) (λ c. search needs) returns-5 sub-least (λ c κs. search needs) run-requires-2
+    (λ c. search needs) (λ c. search needs) returns-6 returns-7 (λ c κs. search needs) returns-8 returns-9)

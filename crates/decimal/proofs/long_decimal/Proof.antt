@@ -45,17 +45,6 @@ unfolding longDecimal
 returns-3 c = (fail _ (c .before .before .decimal .ensures .0) (ap decimalAt (c .enum-told .given .1)), refl)
 
 pub long-decimal-spec : {M : Type 1} → statement M
-long-decimal-spec =
-    tie.close
-    (tie.spec
-    (λ c κs. search needs)
-    (λ c. search needs)
-    (λ c. search needs)
-    sub-pow10
-    (λ c κs. search needs)
-    mul-billionths
-    nearest-f64-requires
-    (λ c. search needs)
-    returns
-    returns-2
-    returns-3)
+long-decimal-spec = tie.close (tie.spec
+    (λ c κs. search needs) (λ c. search needs) (λ c. search needs) sub-pow10 (λ c κs. search needs) mul-billionths nearest-f64-requires
+    (λ c. search needs) returns returns-2 returns-3)

@@ -18,5 +18,4 @@ returns : tie.Need-returns
 returns c = let k = c .before .before .before .args .k in divided binary32 (c .before .before .before .args .size) k (omega arith) (omega arith) (omega (arith, under k 6 (omega arith))) (c .before .pow10 .ensures)
 
 pub nearest-f32-spec : {M : Type 1} → statement M
-nearest-f32-spec =
-    tie.close (tie.spec int-to-float-result (λ c κs. search needs) int-to-float-result-2 returns)
+nearest-f32-spec = tie.close (tie.spec int-to-float-result (λ c κs. search needs) int-to-float-result-2 returns)

@@ -41,21 +41,6 @@ returns-3 : tie.Need-returns-3 Inv-loop μ-loop
 returns-3 c = let a = c .before .before .before .args in let l = c .before .loop in (a-read (l .inv .4 ∙ run-end (a .most) (l .v) (l .n) (now (a .s)) (l .i) (c .loop-test .left) (l .inv .2)) (l .inv .0) (l .inv .1), refl)
 
 pub run-spec : {M : Type 1} → statement M
-run-spec =
-    tie.close
-    (tie.spec
-    Inv-loop
-    μ-loop
-    loop-holds
-    (λ c. search needs)
-    (λ c κs. search needs)
-    returns
-    returns-2
-    mul-v
-    (λ c κs. search needs)
-    add-v
-    (λ c. search needs)
-    (λ c. search needs)
-    (λ c. search needs)
-    loop-again
-    returns-3)
+run-spec = tie.close (tie.spec
+    Inv-loop μ-loop loop-holds (λ c. search needs) (λ c κs. search needs) returns returns-2 mul-v (λ c κs. search needs) add-v
+    (λ c. search needs) (λ c. search needs) (λ c. search needs) loop-again returns-3)

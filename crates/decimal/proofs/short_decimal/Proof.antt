@@ -46,16 +46,6 @@ unfolding shortDecimal
 returns-3 c = (fail _ (c .before .before .decimal .ensures .0) (ap decimalAt (c .enum-told .given .1)), refl)
 
 pub short-decimal-spec : {M : Type 1} → statement M
-short-decimal-spec =
-    tie.close
-    (tie.spec
-    (λ c κs. search needs)
-    (λ c. search needs)
-    (λ c. search needs)
-    cast-size
-    nearest-f32-requires
-    cast-whole
-    (λ c. search needs)
-    returns
-    returns-2
-    returns-3)
+short-decimal-spec = tie.close (tie.spec
+    (λ c κs. search needs) (λ c. search needs) (λ c. search needs) cast-size nearest-f32-requires cast-whole (λ c. search needs) returns
+    returns-2 returns-3)

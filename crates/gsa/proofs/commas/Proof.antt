@@ -53,19 +53,6 @@ returns-3 c =
     )
 
 pub commas-spec : {M : Type 1} → statement M
-commas-spec =
-    tie.close
-    (tie.spec
-    Inv-loop
-    μ-loop
-    (λ c κs. search needs)
-    (λ c. search needs)
-    (λ c. search needs)
-    returns
-    loop-holds
-    (λ c. search needs)
-    returns-2
-    (λ c. search needs)
-    (λ c. search needs)
-    loop-again
-    returns-3)
+commas-spec = tie.close (tie.spec
+    Inv-loop μ-loop (λ c κs. search needs) (λ c. search needs) (λ c. search needs) returns loop-holds (λ c. search needs) returns-2
+    (λ c. search needs) (λ c. search needs) loop-again returns-3)

@@ -8,13 +8,6 @@ use Rattle.gsa.proofs.dop.Tie as tie
 
 pub dop-spec : {M : Type 1} → statement M
 unfolding dop
-dop-spec =
-    tie.close
-    (tie.spec
-    (λ c κs. search needs)
-    (λ c. search needs)
-    (λ c. search needs)
-    (λ c. search needs)
-    (λ c. (search steps depth 12, refl))
-    (λ c. (search steps depth 12, refl))
-    (λ c. (search steps depth 12, refl)))
+dop-spec = tie.close (tie.spec
+    (λ c κs. search needs) (λ c. search needs) (λ c. search needs) (λ c. search needs) (λ c. (search steps depth 12, refl))
+    (λ c. (search steps depth 12, refl)) (λ c. (search steps depth 12, refl)))

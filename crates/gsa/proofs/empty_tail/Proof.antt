@@ -19,6 +19,5 @@ returns-2 c =
     (go _ (k .before .before .commas .ensures .0) (ap next (k .at .given .1)) (empty-of (c .last-system .result) (c .last-system .ensures .0)), refl)
 
 pub empty-tail-spec : {M : Type 1} → statement M
-empty-tail-spec =
-    tie.close
-    (tie.spec (λ c κs. search needs) (λ c. search needs) (λ c. search needs) returns (λ c κs. search needs) returns-2)
+empty-tail-spec = tie.close (tie.spec
+    (λ c κs. search needs) (λ c. search needs) (λ c. search needs) returns (λ c κs. search needs) returns-2)

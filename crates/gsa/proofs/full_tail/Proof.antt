@@ -19,15 +19,6 @@ unfolding fullTail
 returns-3 c = (search steps depth 12, c .before .before .before .before .before .before .prn-fields .ensures .1, refl)
 
 pub full-tail-spec : {M : Type 1} → statement M
-full-tail-spec =
-    tie.close
-    (tie.spec
-    (λ c κs. search needs)
-    (λ c κs. search needs)
-    (λ c. search needs)
-    (λ c. search needs)
-    (λ c. search needs)
-    (λ c κs. search needs)
-    returns
-    returns-2
-    returns-3)
+full-tail-spec = tie.close (tie.spec
+    (λ c κs. search needs) (λ c κs. search needs) (λ c. search needs) (λ c. search needs) (λ c. search needs) (λ c κs. search needs) returns
+    returns-2 returns-3)

@@ -8,6 +8,6 @@ use Rattle.gsa.proofs.prn_field.Tie as tie
 
 pub prn-field-spec : {M : Type 1} → statement M
 unfolding item
-prn-field-spec =
-    tie.close
-    (tie.spec (λ c κs. search needs) (λ c κs. search needs) (λ c. search needs) (λ c. search needs) (λ c. (search steps depth 12, refl)) (λ c. (search steps depth 12, refl)))
+prn-field-spec = tie.close (tie.spec
+    (λ c κs. search needs) (λ c κs. search needs) (λ c. search needs) (λ c. search needs) (λ c. (search steps depth 12, refl))
+    (λ c. (search steps depth 12, refl)))

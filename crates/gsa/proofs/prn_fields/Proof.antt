@@ -76,25 +76,7 @@ loop-again-3 c =
     taken (k .before .before .before .before .loop .inv) (turn k) (c .before .before .before .if1 .left) (ap held (c .before .v2 .given .1))
 
 pub prn-fields-spec : {M : Type 1} → statement M
-prn-fields-spec =
-    tie.close
-    (tie.spec
-    Inv-loop
-    μ-loop
-    loop-holds
-    (λ c κs. search needs)
-    (λ c. search needs)
-    (λ c. search needs)
-    returns
-    loop-less
-    loop-again
-    add-seen
-    (λ c. search needs)
-    (λ c. search needs)
-    loop-less-2
-    loop-again-2
-    mul-satellites
-    array-write-satellites
-    add-count
-    loop-less-3
+prn-fields-spec = tie.close (tie.spec
+    Inv-loop μ-loop loop-holds (λ c κs. search needs) (λ c. search needs) (λ c. search needs) returns loop-less loop-again add-seen
+    (λ c. search needs) (λ c. search needs) loop-less-2 loop-again-2 mul-satellites array-write-satellites add-count loop-less-3
     loop-again-3)

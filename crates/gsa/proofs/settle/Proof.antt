@@ -37,18 +37,6 @@ returns-5 c =
     ∙ both (sym (ap system (k .talker .given .1)) ∙ k .before .before .named .ensures) (sym (ap system (j .tail2 .given .1)))
 
 pub settle-spec : {M : Type 1} → statement M
-settle-spec =
-    tie.close
-    (tie.spec
-    (λ c κs. search needs)
-    (λ c. search needs)
-    (λ c. search needs)
-    (λ c. search needs)
-    (λ c. search needs)
-    returns
-    returns-2
-    (λ c. search needs)
-    (λ c. search needs)
-    returns-3
-    returns-4
-    returns-5)
+settle-spec = tie.close (tie.spec
+    (λ c κs. search needs) (λ c. search needs) (λ c. search needs) (λ c. search needs) (λ c. search needs) returns returns-2
+    (λ c. search needs) (λ c. search needs) returns-3 returns-4 returns-5)

@@ -28,33 +28,10 @@ returns-9 c =
 
 pub three-dops-spec : {M : Type 1} → statement M
 unfolding dops
-three-dops-spec =
-    tie.close
-    (tie.spec
-    (λ c κs. search needs)
-    (λ c. search needs)
-    (λ c. search needs)
-    (λ c. search needs)
-    (λ c κs. search needs)
-    (λ c. search needs)
-    (λ c. search needs)
-    (λ c. (search steps depth 14, refl))
-    (λ c κs. search needs)
-    (λ c. search needs)
-    (λ c. search needs)
-    (λ c. search needs)
-    (λ c κs. search needs)
-    (λ c. search needs)
-    (λ c. search needs)
-    (λ c. (search steps depth 14, refl))
-    (λ c κs. search needs)
-    (λ c. search needs)
-    (λ c. search needs)
-    (λ c. search needs)
-    (λ c. (search steps depth 14, refl))
-    (λ c. (search steps depth 14, refl))
-    (λ c. (search steps depth 14, refl))
-    (λ c. (search steps depth 14, refl))
-    (λ c. (search steps depth 14, refl))
-    (λ c. (search steps depth 14, refl))
-    returns-9)
+three-dops-spec = tie.close (tie.spec
+    (λ c κs. search needs) (λ c. search needs) (λ c. search needs) (λ c. search needs) (λ c κs. search needs) (λ c. search needs)
+    (λ c. search needs) (λ c. (search steps depth 14, refl)) (λ c κs. search needs) (λ c. search needs) (λ c. search needs)
+    (λ c. search needs) (λ c κs. search needs) (λ c. search needs) (λ c. search needs) (λ c. (search steps depth 14, refl))
+    (λ c κs. search needs) (λ c. search needs) (λ c. search needs) (λ c. search needs) (λ c. (search steps depth 14, refl))
+    (λ c. (search steps depth 14, refl)) (λ c. (search steps depth 14, refl)) (λ c. (search steps depth 14, refl))
+    (λ c. (search steps depth 14, refl)) (λ c. (search steps depth 14, refl)) returns-9)

@@ -8,15 +8,6 @@ use Rattle.gsv.proofs.counted.Tie as tie
 
 pub counted-spec : {M : Type 1} → statement M
 unfolding counted
-counted-spec =
-    tie.close
-    (tie.spec
-    (λ c κs. search needs)
-    (λ c. search needs)
-    (λ c. search needs)
-    (λ c. (search steps depth 12, refl))
-    (λ c κs. search needs)
-    (λ c. search needs)
-    (λ c. search needs)
-    (λ c. (search steps depth 12, refl))
-    (λ c. (search steps depth 12, refl)))
+counted-spec = tie.close (tie.spec
+    (λ c κs. search needs) (λ c. search needs) (λ c. search needs) (λ c. (search steps depth 12, refl)) (λ c κs. search needs)
+    (λ c. search needs) (λ c. search needs) (λ c. (search steps depth 12, refl)) (λ c. (search steps depth 12, refl)))

@@ -8,6 +8,6 @@ use Rattle.gsv.proofs.in_cell.Tie as tie
 
 pub in-cell-spec : {M : Type 1} → statement M
 unfolding cell
-in-cell-spec =
-    tie.close
-    (tie.spec (λ c κs. search needs) (λ c κs. search needs) (λ c. search needs) (λ c. search needs) (λ c. (search steps depth 12, refl)) (λ c. (search steps depth 12, refl)))
+in-cell-spec = tie.close (tie.spec
+    (λ c κs. search needs) (λ c κs. search needs) (λ c. search needs) (λ c. search needs) (λ c. (search steps depth 12, refl))
+    (λ c. (search steps depth 12, refl)))

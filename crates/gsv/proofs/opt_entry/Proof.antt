@@ -13,5 +13,4 @@ returns-2 : tie.Need-returns-2
 returns-2 c = (opt-none _ (c .before .before .parse-gsv-sat-info .ensures .0) (ap entryAt (c .enum-told .given .1)), refl)
 
 pub opt-entry-spec : {M : Type 1} → statement M
-opt-entry-spec =
-    tie.close (tie.spec (λ c κs. search needs) (λ c. search needs) (λ c. search needs) returns returns-2)
+opt-entry-spec = tie.close (tie.spec (λ c κs. search needs) (λ c. search needs) (λ c. search needs) returns returns-2)

@@ -17,12 +17,5 @@ returns-2 c =
     (told-refused (now (k .before .before .before .before .args .line)) (k .before .before .parse-nmea-sentence .ensures .0) (k .r .given .1), refl)
 
 pub calculate-spec : {M : Type 1} → statement M
-calculate-spec =
-    tie.close
-    (tie.spec
-    (λ c κs. search needs)
-    (λ c. search needs)
-    (λ c κs. search needs)
-    (λ c. search needs)
-    returns
-    returns-2)
+calculate-spec = tie.close (tie.spec
+    (λ c κs. search needs) (λ c. search needs) (λ c κs. search needs) (λ c. search needs) returns returns-2)

@@ -13,20 +13,7 @@ slice-aggregate-tell : tie.Need-slice-aggregate-tell
 slice-aggregate-tell c = sym (length-take-le _ (c .before .before .before .before .before .read-log .last .0) (filled (c .before .before .before .before .before .read-log .last .0) (c .before .before .before .before .before .read-log .ensures) (c .before .before .n .given .1)))
 
 pub main-spec : {M : Type 1} → statement M
-main-spec =
-    tie.close
-    (tie.spec
-    (λ c. search needs)
-    (λ c κs. search needs)
-    (λ c. search needs)
-    (λ c. search needs)
-    (λ c. search needs)
-    (λ c κs. search needs)
-    (λ c. search needs)
-    array-share-prefix-space
-    slice-aggregate-tell
-    (λ c κs. search needs)
-    (λ c. search needs)
-    (λ c κs. search needs)
-    (λ c. search needs)
-    (λ c. search needs))
+main-spec = tie.close (tie.spec
+    (λ c. search needs) (λ c κs. search needs) (λ c. search needs) (λ c. search needs) (λ c. search needs) (λ c κs. search needs)
+    (λ c. search needs) array-share-prefix-space slice-aggregate-tell (λ c κs. search needs) (λ c. search needs) (λ c κs. search needs)
+    (λ c. search needs) (λ c. search needs))

@@ -17,13 +17,5 @@ returns-2 c =
     behind (start .args .done) (c .before .before .read-some .result) space rest _ (search needs) lent (c .before .space .given .1) (c .before .before .read-some .ensures)
 
 pub read-after-spec : {M : Type 1} → statement M
-read-after-spec =
-    tie.close
-    (tie.spec
-    (λ c. search needs)
-    (λ c. search needs)
-    (λ c. search needs)
-    (λ c. search needs)
-    (λ c κs. search needs)
-    (λ c. search needs)
-    returns-2)
+read-after-spec = tie.close (tie.spec
+    (λ c. search needs) (λ c. search needs) (λ c. search needs) (λ c. search needs) (λ c κs. search needs) (λ c. search needs) returns-2)

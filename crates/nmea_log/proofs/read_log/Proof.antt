@@ -23,20 +23,6 @@ loop-less : tie.Need-loop-less Inv-loop μ-loop
 loop-less c = search (needs, more (c .before .before .before .before .before .before .before .loop .done) (c .before .before .before .before .before .read-after .last .0) (c .before .before .before .before .before .read-after .ensures) (c .before .n .given .1))
 
 pub read-log-spec : {M : Type 1} → statement M
-read-log-spec =
-    tie.close
-    (tie.spec
-    Inv-loop
-    μ-loop
-    (λ c. search needs)
-    (λ c κs. search needs)
-    (λ c. search needs)
-    add-done
-    loop-less
-    loop-again
-    (λ c. search needs)
-    (λ c. search needs)
-    (λ c. search needs)
-    (λ c. search needs)
-    (λ c. search needs)
-    (λ c. search needs))
+read-log-spec = tie.close (tie.spec
+    Inv-loop μ-loop (λ c. search needs) (λ c κs. search needs) (λ c. search needs) add-done loop-less loop-again (λ c. search needs)
+    (λ c. search needs) (λ c. search needs) (λ c. search needs) (λ c. search needs) (λ c. search needs))

@@ -24,15 +24,6 @@ returns-3 c =
     (go _ comma refl (opt-some _ (c .before .before .before .one-among .ensures .0) (ap lettered (c .before .b .given .1))), refl, refl)
 
 pub after-comma-spec : {M : Type 1} → statement M
-after-comma-spec =
-    tie.close
-    (tie.spec
-    (λ c κs. search needs)
-    (λ c. search needs)
-    (λ c. search needs)
-    returns
-    (λ c κs. search needs)
-    (λ c. search needs)
-    (λ c. search needs)
-    returns-2
-    returns-3)
+after-comma-spec = tie.close (tie.spec
+    (λ c κs. search needs) (λ c. search needs) (λ c. search needs) returns (λ c κs. search needs) (λ c. search needs) (λ c. search needs)
+    returns-2 returns-3)

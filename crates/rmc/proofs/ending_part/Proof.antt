@@ -8,14 +8,6 @@ use Rattle.rmc.proofs.ending_part.Tie as tie
 
 pub ending-part-spec : {M : Type 1} → statement M
 unfolding ending
-ending-part-spec =
-    tie.close
-    (tie.spec
-    (λ c κs. search needs)
-    (λ c. search needs)
-    (λ c. search needs)
-    (λ c κs. search needs)
-    (λ c. search needs)
-    (λ c. (search parts depth 14, refl))
-    (λ c. (search parts depth 14, refl))
-    (λ c. (search parts depth 14, refl)))
+ending-part-spec = tie.close (tie.spec
+    (λ c κs. search needs) (λ c. search needs) (λ c. search needs) (λ c κs. search needs) (λ c. search needs)
+    (λ c. (search parts depth 14, refl)) (λ c. (search parts depth 14, refl)) (λ c. (search parts depth 14, refl)))

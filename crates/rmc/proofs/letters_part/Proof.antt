@@ -8,11 +8,5 @@ use Rattle.rmc.proofs.letters_part.Tie as tie
 
 pub letters-part-spec : {M : Type 1} → statement M
 unfolding letters
-letters-part-spec =
-    tie.close
-    (tie.spec
-    (λ c. search needs)
-    (λ c κs. search needs)
-    (λ c. search needs)
-    (λ c κs. search needs)
-    (λ c. (search parts depth 14, refl)))
+letters-part-spec = tie.close (tie.spec
+    (λ c. search needs) (λ c κs. search needs) (λ c. search needs) (λ c κs. search needs) (λ c. (search parts depth 14, refl)))

@@ -8,23 +8,8 @@ use Rattle.rmc.proofs.motion_part.Tie as tie
 
 pub motion-part-spec : {M : Type 1} → statement M
 unfolding motion
-motion-part-spec =
-    tie.close
-    (tie.spec
-    (λ c κs. search needs)
-    (λ c. search needs)
-    (λ c. search needs)
-    (λ c κs. search needs)
-    (λ c. search needs)
-    (λ c. search needs)
-    (λ c κs. search needs)
-    (λ c. search needs)
-    (λ c. search needs)
-    (λ c. (search parts depth 14, refl))
-    (λ c. search needs)
-    (λ c. search needs)
-    (λ c. (search parts depth 14, refl))
-    (λ c. (search parts depth 14, refl))
-    (λ c. (search parts depth 14, refl))
-    (λ c. (search parts depth 14, refl))
-    (λ c. (search parts depth 14, refl)))
+motion-part-spec = tie.close (tie.spec
+    (λ c κs. search needs) (λ c. search needs) (λ c. search needs) (λ c κs. search needs) (λ c. search needs) (λ c. search needs)
+    (λ c κs. search needs) (λ c. search needs) (λ c. search needs) (λ c. (search parts depth 14, refl)) (λ c. search needs)
+    (λ c. search needs) (λ c. (search parts depth 14, refl)) (λ c. (search parts depth 14, refl)) (λ c. (search parts depth 14, refl))
+    (λ c. (search parts depth 14, refl)) (λ c. (search parts depth 14, refl)))

@@ -8,16 +8,7 @@ use Rattle.rmc.proofs.status_place.Tie as tie
 
 pub status-place-spec : {M : Type 1} → statement M
 unfolding withComma
-status-place-spec =
-    tie.close
-    (tie.spec
-    (λ c. search needs)
-    (λ c κs. search needs)
-    (λ c. search needs)
-    (λ c. search needs)
-    (λ c. (search commas depth 14, refl))
-    (λ c κs. search needs)
-    (λ c. search needs)
-    (λ c. search needs)
-    (λ c. (search commas depth 14, refl))
+status-place-spec = tie.close (tie.spec
+    (λ c. search needs) (λ c κs. search needs) (λ c. search needs) (λ c. search needs) (λ c. (search commas depth 14, refl))
+    (λ c κs. search needs) (λ c. search needs) (λ c. search needs) (λ c. (search commas depth 14, refl))
     (λ c. (search commas depth 14, refl)))

@@ -27,18 +27,7 @@ returns-4 c = let p = parts (now (c .before .before .before .before .before .bef
     (alone-is (c .alone3 .ensures) (dispatched p (c .before .before .before .formatter-of .ensures) (c .before .enum-told4 .given .1)) refl, refl)
 
 pub dispatch-spec : {M : Type 1} → statement M
-dispatch-spec = tie.close (tie.spec (λ c κs. search needs)
-    (λ c. search needs)
-    (λ c κs. search needs)
-    (λ c κs. search needs)
-    (λ c. search needs)
-    (λ c κs. search needs)
-    (λ c. search needs)
-    (λ c κs. search needs)
-    (λ c κs. search needs)
-    (λ c. search needs)
-    (λ c κs. search needs)
-    returns
-    returns-2
-    returns-3
+dispatch-spec = tie.close (tie.spec
+    (λ c κs. search needs) (λ c. search needs) (λ c κs. search needs) (λ c κs. search needs) (λ c. search needs) (λ c κs. search needs)
+    (λ c. search needs) (λ c κs. search needs) (λ c κs. search needs) (λ c. search needs) (λ c κs. search needs) returns returns-2 returns-3
     returns-4)

@@ -22,10 +22,5 @@ unfolding formatterOf
 returns-4 c = rw (sym (c .before .before .before .before .before .same .ensures) ∙ c .before .before .before .before .if1 .left, sym (c .before .before .before .same2 .ensures) ∙ c .before .before .if2 .left, sym (c .before .same3 .ensures) ∙ c .if3 .left)
 
 pub formatter-of-spec : {M : Type 1} → statement M
-formatter-of-spec = tie.close (tie.spec (λ c κs. search needs)
-    returns
-    (λ c κs. search needs)
-    returns-2
-    (λ c κs. search needs)
-    returns-3
-    returns-4)
+formatter-of-spec = tie.close (tie.spec
+    (λ c κs. search needs) returns (λ c κs. search needs) returns-2 (λ c κs. search needs) returns-3 returns-4)

@@ -24,13 +24,6 @@ returns-3 c = let named = ap talkerRead (sym (c .before .before .before .before 
     (data-says (c .before .before .before .before .before .before .before .before .before .before .before .args .x) (now (c .before .before .before .before .before .before .before .before .before .before .before .args .s)) (c .before .before .before .before .before .before .before .before .before .before .before .pre) (c .before .before .before .before .data .ensures .0) (asGsv _) gsv gsvRead (c .before .before .before .do-parse-gsv .ensures .0) (c .before .body .given .1) ∙ ap (λ (o : Option Talker). gsvBy o (parts (now (c .before .before .before .before .before .before .before .before .before .before .before .args .s)) (c .before .before .before .before .before .before .before .before .before .before .before .args .x))) named, refl)
 
 pub gsv-of-spec : {M : Type 1} → statement M
-gsv-of-spec = tie.close (tie.spec (λ c κs. search needs)
-    (λ c. search needs)
-    (λ c. search needs)
-    returns
-    (λ c κs. search needs)
-    (λ c κs. search needs)
-    (λ c. search needs)
-    (λ c. search needs)
-    returns-2
-    returns-3)
+gsv-of-spec = tie.close (tie.spec
+    (λ c κs. search needs) (λ c. search needs) (λ c. search needs) returns (λ c κs. search needs) (λ c κs. search needs) (λ c. search needs)
+    (λ c. search needs) returns-2 returns-3)

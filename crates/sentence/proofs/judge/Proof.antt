@@ -19,9 +19,4 @@ unfolding answer
 returns-2 c = (c .judged .ensures .0 ∙ ap verdictOf (framed-is dispatch (now (c .before .before .before .before .before .before .args .line)) (c .before .before .before .before .parse-nmea-sentence .ensures .0) (c .before .before .x .given .1)), refl)
 
 pub judge-spec : {M : Type 1} → statement M
-judge-spec = tie.close (tie.spec (λ c κs. search needs)
-    (λ c. search needs)
-    (λ c. search needs)
-    judged-requires
-    returns
-    returns-2)
+judge-spec = tie.close (tie.spec (λ c κs. search needs) (λ c. search needs) (λ c. search needs) judged-requires returns returns-2)

@@ -32,13 +32,6 @@ returns-3 c = let line = now (c .before .before .before .before .before .before 
     (alone-is (c .alone2 .ensures) (other-type name p (c .before .before .same .ensures) (c .before .if1 .left) ∙ framed-is (ofType name) line (c .before .before .before .before .before .before .before .parse-nmea-sentence .ensures .0) (c .before .before .before .before .before .x .given .1)) refl, refl)
 
 pub parse-as-spec : {M : Type 1} → statement M
-parse-as-spec = tie.close (tie.spec (λ c κs. search needs)
-    (λ c. search needs)
-    (λ c κs. search needs)
-    (λ c. search needs)
-    (λ c κs. search needs)
-    dispatch-requires
-    (λ c κs. search needs)
-    returns
-    returns-2
-    returns-3)
+parse-as-spec = tie.close (tie.spec
+    (λ c κs. search needs) (λ c. search needs) (λ c κs. search needs) (λ c. search needs) (λ c κs. search needs) dispatch-requires
+    (λ c κs. search needs) returns returns-2 returns-3)

@@ -21,13 +21,5 @@ unfolding answer
 returns-2 c = (subst (λ (a : Answer). Says a (c .dispatch .result)) (framed-is dispatch (now (c .before .before .before .before .before .before .args .line)) (c .before .before .before .before .parse-nmea-sentence .ensures .0) (c .before .before .x .given .1)) (c .dispatch .ensures .0), refl)
 
 pub parse-bytes-spec : {M : Type 1} → statement M
-parse-bytes-spec =
-    tie.close
-    (tie.spec
-    (λ c κs. search needs)
-    (λ c. search needs)
-    (λ c κs. search needs)
-    (λ c. search needs)
-    dispatch-requires
-    returns
-    returns-2)
+parse-bytes-spec = tie.close (tie.spec
+    (λ c κs. search needs) (λ c. search needs) (λ c κs. search needs) (λ c. search needs) dispatch-requires returns returns-2)

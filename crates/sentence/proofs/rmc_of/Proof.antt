@@ -22,13 +22,6 @@ returns-4 : tie.Need-returns-4
 returns-4 c = (data-says (c .before .before .before .before .before .before .args .x) (now (c .before .before .before .before .before .before .args .s)) (c .before .before .before .before .before .before .pre) (c .before .before .before .data .ensures .0) (asRmc _) rmc rmcRead (c .before .before .do-parse-rmc .ensures .0) (c .enum-told3 .given .1), refl)
 
 pub rmc-of-spec : {M : Type 1} → statement M
-rmc-of-spec = tie.close (tie.spec (λ c κs. search needs)
-    (λ c κs. search needs)
-    (λ c. search needs)
-    (λ c. search needs)
-    (λ c. search needs)
-    (λ c. search needs)
-    returns
-    returns-2
-    returns-3
-    returns-4)
+rmc-of-spec = tie.close (tie.spec
+    (λ c κs. search needs) (λ c κs. search needs) (λ c. search needs) (λ c. search needs) (λ c. search needs) (λ c. search needs) returns
+    returns-2 returns-3 returns-4)

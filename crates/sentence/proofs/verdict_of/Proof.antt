@@ -9,13 +9,7 @@ use Rattle.sentence.proofs.verdict_of.Statement.{statement}
 use Rattle.sentence.proofs.verdict_of.Tie as tie
 
 pub verdict-of-spec : {M : Type 1} → statement M
-verdict-of-spec = tie.close (tie.spec (λ c. search needs)
-    (λ c. search needs)
-    (λ c. search needs)
-    (λ c. search needs)
-    (λ c. search needs)
-    (λ c. search needs)
-    (λ c. search needs)
-    (λ c. search needs)
-    (λ c. search needs)
+verdict-of-spec = tie.close (tie.spec
+    (λ c. search needs) (λ c. search needs) (λ c. search needs) (λ c. search needs) (λ c. search needs) (λ c. search needs)
+    (λ c. search needs) (λ c. search needs) (λ c. search needs)
     (λ c. sym (ap (λ (r : Record). verdictOf (recordOf [] r)) (c .before .answer .given .1))))

@@ -72,30 +72,7 @@ returns-6 c =
     (a-read (inv .4 ∙ number-end _ _ _ _ (c .loop-test .left) (inv .2)) (inv .0) (omega arith), refl)
 
 pub number-spec : {M : Type 1} → statement M
-number-spec =
-    tie.close
-    (tie.spec
-    Inv-loop
-    μ-loop
-    returns
-    (λ c. search needs)
-    (λ c κs. search needs)
-    returns-2
-    returns-3
-    (λ c κs. search needs)
-    (λ c κs. search needs)
-    (λ c. search needs)
-    loop-holds
-    (λ c. search needs)
-    (λ c κs. search needs)
-    (λ c. omega arith)
-    returns-4
-    (λ c. omega arith)
-    (λ c κs. search needs)
-    (λ c. omega arith)
-    returns-5
-    (λ c. search needs)
-    (λ c. search needs)
-    loop-again
-    (λ c. omega arith)
-    returns-6)
+number-spec = tie.close (tie.spec
+    Inv-loop μ-loop returns (λ c. search needs) (λ c κs. search needs) returns-2 returns-3 (λ c κs. search needs) (λ c κs. search needs)
+    (λ c. search needs) loop-holds (λ c. search needs) (λ c κs. search needs) (λ c. omega arith) returns-4 (λ c. omega arith)
+    (λ c κs. search needs) (λ c. omega arith) returns-5 (λ c. search needs) (λ c. search needs) loop-again (λ c. omega arith) returns-6)

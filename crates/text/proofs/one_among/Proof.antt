@@ -18,5 +18,4 @@ returns-3 : tie.Need-returns-3
 returns-3 c = (no-read (among-miss _ _ _ (c .before .before .before .if1 .left) (sym (c .before .has .ensures .0) ∙ c .if2 .left)), refl, refl)
 
 pub one-among-spec : {M : Type 1} → statement M
-one-among-spec =
-    tie.close (tie.spec returns (λ c. search needs) (λ c κs. search needs) (λ c. search needs) returns-2 returns-3)
+one-among-spec = tie.close (tie.spec returns (λ c. search needs) (λ c κs. search needs) (λ c. search needs) returns-2 returns-3)

@@ -23,5 +23,4 @@ returns-4 : tie.Need-returns-4
 returns-4 c = let a = c .before .before .before .before .args in (no-read (letter-none (a .a) (a .b) (now (a .s)) (a .at) (c .before .before .before .if1 .left) (c .before .if2 .left) (c .if3 .left)), refl)
 
 pub one-of-spec : {M : Type 1} → statement M
-one-of-spec =
-    tie.close (tie.spec returns (λ c. search needs) (λ c. search needs) returns-2 (λ c. search needs) returns-3 returns-4)
+one-of-spec = tie.close (tie.spec returns (λ c. search needs) (λ c. search needs) returns-2 (λ c. search needs) returns-3 returns-4)

@@ -34,27 +34,7 @@ returns-7 : tie.Need-returns-7
 returns-7 c = let a = c .before .before .before .before .before .before .before .before .before .before .before .before .before .args in (a-read (three-read (now (a .s)) (a .at) (c .before .before .before .before .before .before .before .before .lead-unit .ensures) (c .before .before .before .before .before .unit .ensures) (c .before .before .unit2 .ensures) (omega arith) (c .before .before .before .before .before .before .before .if3 .left) (c .before .before .before .before .if4 .left) (c .before .if5 .left) (c .if6 .left)) (omega arith) (omega arith), refl)
 
 pub three-spec : {M : Type 1} → statement M
-three-spec =
-    tie.close
-    (tie.spec
-    returns
-    (λ c. search needs)
-    returns-2
-    (λ c. search needs)
-    (λ c κs. search needs)
-    returns-3
-    (λ c. search needs)
-    (λ c. search needs)
-    (λ c κs. search needs)
-    returns-4
-    (λ c. search needs)
-    (λ c. search needs)
-    (λ c κs. search needs)
-    returns-5
-    (λ c. search needs)
-    (λ c. search needs)
-    (λ c. search needs)
-    (λ c. search needs)
-    returns-6
-    (λ c. search needs)
-    returns-7)
+three-spec = tie.close (tie.spec
+    returns (λ c. search needs) returns-2 (λ c. search needs) (λ c κs. search needs) returns-3 (λ c. search needs) (λ c. search needs)
+    (λ c κs. search needs) returns-4 (λ c. search needs) (λ c. search needs) (λ c κs. search needs) returns-5 (λ c. search needs)
+    (λ c. search needs) (λ c. search needs) (λ c. search needs) returns-6 (λ c. search needs) returns-7)

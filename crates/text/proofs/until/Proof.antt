@@ -42,15 +42,5 @@ returns-2 c =
     (no-read (c .before .loop .inv .2 ∙ until-end (now (a .s)) (a .at) _ _ (c .loop-test .left)), refl)
 
 pub until-spec : {M : Type 1} → statement M
-until-spec =
-    tie.close
-    (tie.spec
-    Inv-loop
-    μ-loop
-    loop-holds
-    (λ c. search needs)
-    returns
-    (λ c. search needs)
-    (λ c. search needs)
-    loop-again
-    returns-2)
+until-spec = tie.close (tie.spec
+    Inv-loop μ-loop loop-holds (λ c. search needs) returns (λ c. search needs) (λ c. search needs) loop-again returns-2)

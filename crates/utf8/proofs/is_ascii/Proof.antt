@@ -34,15 +34,5 @@ returns c =
     (sym (c .before .loop .inv .1 ∙ no-octet text _ (c .before .loop .top) (c .loop-test .left)), refl)
 
 pub is-ascii-spec : {M : Type 1} → statement M
-is-ascii-spec =
-    tie.close
-    (tie.spec
-    Inv-loop
-    μ-loop
-    loop-holds
-    (λ c. search needs)
-    (λ c κs. search needs)
-    (λ c. search needs)
-    (λ c. search needs)
-    loop-again
-    returns)
+is-ascii-spec = tie.close (tie.spec
+    Inv-loop μ-loop loop-holds (λ c. search needs) (λ c κs. search needs) (λ c. search needs) (λ c. search needs) loop-again returns)

@@ -36,16 +36,6 @@ returns c =
     (c .whole .ensures ∙ sym (ap mayEnd (k .before .loop .inv .1 ∙ no-more text _ _ (k .loop-test .left))), refl)
 
 pub is-utf8-spec : {M : Type 1} → statement M
-is-utf8-spec =
-    tie.close
-    (tie.spec
-    Inv-loop
-    μ-loop
-    loop-holds
-    (λ c. search needs)
-    (λ c κs. search needs)
-    (λ c. search needs)
-    (λ c. search needs)
-    loop-again
-    (λ c κs. search needs)
-    returns)
+is-utf8-spec = tie.close (tie.spec
+    Inv-loop μ-loop loop-holds (λ c. search needs) (λ c κs. search needs) (λ c. search needs) (λ c. search needs) loop-again
+    (λ c κs. search needs) returns)

@@ -41,17 +41,5 @@ returns-11 : tie.Need-returns-11
 returns-11 c = sym (regional 0xF5 0xFF utf8-char _ refl (omega arith) (omega arith))
 
 pub lead-spec : {M : Type 1} → statement M
-lead-spec =
-    tie.close
-    (tie.spec
-    returns
-    returns-2
-    returns-3
-    returns-4
-    returns-5
-    returns-6
-    returns-7
-    returns-8
-    returns-9
-    returns-10
-    returns-11)
+lead-spec = tie.close (tie.spec
+    returns returns-2 returns-3 returns-4 returns-5 returns-6 returns-7 returns-8 returns-9 returns-10 returns-11)

@@ -18,18 +18,7 @@ returns-3 c = let mine = c .before .before .before .before .before .row-of .ensu
     is-gsv (c .before .before .before .before .before .before .before .before .before .before .before .args .answer) (now (c .before .before .before .before .before .before .before .before .before .before .before .args .table)) _ _ _ _ _ (c .before .before .before .before .before .before .before .before .answer .given .1) mine (c .before .before .before .gather .ensures) (c .row-code .ensures)
 
 pub gather-record-spec : {M : Type 1} → statement M
-gather-record-spec = tie.close (tie.spec (λ c. search needs)
-    (λ c. search needs)
-    (λ c. search needs)
-    (λ c κs. search needs)
-    (λ c κs. search needs)
-    (λ c κs. search needs)
-    row-code-requires
-    (λ c. search needs)
-    (λ c. search needs)
-    (λ c. search needs)
-    (λ c. search needs)
-    (λ c. search needs)
-    returns-3
-    (λ c. search needs)
-    (λ c. search needs))
+gather-record-spec = tie.close (tie.spec
+    (λ c. search needs) (λ c. search needs) (λ c. search needs) (λ c κs. search needs) (λ c κs. search needs) (λ c κs. search needs)
+    row-code-requires (λ c. search needs) (λ c. search needs) (λ c. search needs) (λ c. search needs) (λ c. search needs) returns-3
+    (λ c. search needs) (λ c. search needs))

@@ -47,17 +47,6 @@ returns-2 c =
     subst (λ (l : List ℕ). Freshened t l 0) (sym (w .inv .1)) (all-cleared t (w .i) (c .before .before .if1 .left) (omega arith))
 
 pub nmea-fresh-spec : {M : Type 1} → statement M
-nmea-fresh-spec =
-    tie.close
-    (tie.spec
-    Inv-loop
-    μ-loop
-    returns
-    loop-holds
-    (λ c. omega arith)
-    slice-write-table
-    (λ c. omega arith)
-    (λ c. omega arith)
-    loop-again
-    same-length
+nmea-fresh-spec = tie.close (tie.spec
+    Inv-loop μ-loop returns loop-holds (λ c. omega arith) slice-write-table (λ c. omega arith) (λ c. omega arith) loop-again same-length
     returns-2)

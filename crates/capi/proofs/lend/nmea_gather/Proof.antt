@@ -18,11 +18,6 @@ returns-3 c = let w = written (now (c .before .before .before .before .before .b
     (line-taken (now (c .before .before .before .before .before .before .before .before .before .before .before .before .before .before .args .line)) (now (c .before .before .before .before .before .before .before .before .before .before .before .before .before .before .args .out)) (now (c .before .before .before .before .before .before .before .before .before .before .before .before .before .before .args .table)) (c .before .before .before .before .before .before .before .before .parse-bytes .result) _ _ _ (c .before .before .before .before .before .before .before .before .before .before .if1 .left) (c .before .before .before .before .before .before .before .before .before .if2 .left) (c .before .before .before .before .before .before .before .before .parse-bytes .ensures .0) (w .words) (c .before .before .gather-record .ensures), refl)
 
 pub nmea-gather-spec : {M : Type 1} → statement M
-nmea-gather-spec = tie.close (tie.spec returns
-    returns-2
-    (λ c κs. search needs)
-    (λ c κs. search needs)
-    (λ c κs. search needs)
-    (λ c. search needs)
-    (λ c. search needs)
+nmea-gather-spec = tie.close (tie.spec
+    returns returns-2 (λ c κs. search needs) (λ c κs. search needs) (λ c κs. search needs) (λ c. search needs) (λ c. search needs)
     returns-3)

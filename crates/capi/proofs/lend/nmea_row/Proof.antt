@@ -25,18 +25,6 @@ returns-4 c =
     (row-taken (now (a .table)) (a .row) (now (a .out)) _ _ _ (c .before .before .before .before .before .before .before .if1 .left) (c .before .before .before .before .before .before .if2 .left) (c .before .before .before .before .before .if3 .left) (λ j. take (z j) (drop (a .row * 148) (now (a .table)))) (c .before .before .read-row .ensures), refl)
 
 pub nmea-row-spec : {M : Type 1} → statement M
-nmea-row-spec =
-    tie.close
-    (tie.spec
-    returns
-    returns-2
-    returns-3
-    (λ c. search needs)
-    (λ c. search needs)
-    (λ c. search needs)
-    (λ c. search needs)
-    (λ c. search needs)
-    (λ c. search needs)
-    (λ c κs. search needs)
-    (λ c. search needs)
-    returns-4)
+nmea-row-spec = tie.close (tie.spec
+    returns returns-2 returns-3 (λ c. search needs) (λ c. search needs) (λ c. search needs) (λ c. search needs) (λ c. search needs)
+    (λ c. search needs) (λ c κs. search needs) (λ c. search needs) returns-4)

@@ -51,15 +51,4 @@ returns c =
     w .inv .1 ∙ ap (λ (n : ℕ). sets (now (a .out)) 5 (entriesWords (satsFrom 0 n (now (a .row))))) e
 
 pub put-entries-spec : {M : Type 1} → statement M
-put-entries-spec =
-    tie.close
-    (tie.spec
-    Inv-loop
-    μ-loop
-    loop-holds
-    put-entry-requires
-    add-i
-    loop-less
-    loop-again
-    same-length
-    returns)
+put-entries-spec = tie.close (tie.spec Inv-loop μ-loop loop-holds put-entry-requires add-i loop-less loop-again same-length returns)

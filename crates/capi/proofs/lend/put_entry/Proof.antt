@@ -49,35 +49,9 @@ returns c =
     entry-stored (now (a .out)) _ _ _ _ (5 + a .i * 8) (getD (now (a .row)) (4 + a .i * 4) 0) (numberOf (w 1)) (numberOf (w 2)) (numberOf (w 3)) refl (c .before .before .before .before .before .before .before .before .before .before .put-option .ensures) (c .before .before .before .before .before .before .put-option2 .ensures) (c .before .before .put-option3 .ensures)
 
 pub put-entry-spec : {M : Type 1} → statement M
-put-entry-spec =
-    tie.close
-    (tie.spec
-    (λ c. search needs)
-    (λ c. search needs)
-    (λ c. search needs)
-    (λ c. search needs)
-    (λ c. search needs)
-    (λ c. search needs)
-    (λ c. search needs)
-    (λ c. search needs)
-    (λ c. search needs)
-    (λ c. search needs)
-    (λ c. search needs)
-    (λ c. search needs)
-    (λ c. search needs)
-    (λ c. search needs)
-    (λ c. search needs)
-    (λ c. search needs)
-    (λ c. search needs)
-    cast-out
-    (λ c. search needs)
-    (λ c. search needs)
-    slice-write-out-2
-    (λ c. search needs)
-    put-option-requires
-    (λ c. search needs)
-    put-option-requires-2
-    (λ c. search needs)
-    put-option-requires-3
-    same-length
-    returns)
+put-entry-spec = tie.close (tie.spec
+    (λ c. search needs) (λ c. search needs) (λ c. search needs) (λ c. search needs) (λ c. search needs) (λ c. search needs)
+    (λ c. search needs) (λ c. search needs) (λ c. search needs) (λ c. search needs) (λ c. search needs) (λ c. search needs)
+    (λ c. search needs) (λ c. search needs) (λ c. search needs) (λ c. search needs) (λ c. search needs) cast-out (λ c. search needs)
+    (λ c. search needs) slice-write-out-2 (λ c. search needs) put-option-requires (λ c. search needs) put-option-requires-2
+    (λ c. search needs) put-option-requires-3 same-length returns)

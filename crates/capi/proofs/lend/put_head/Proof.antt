@@ -34,22 +34,7 @@ slice-write-out-5 : tie.Need-slice-write-out-5
 slice-write-out-5 c = let a = c .before .before .before .before .args in omega (arith, c .before .before .before .before .pre .2, length-sets (now (a .out)) 0 ((a .number + 1) ∷ getD (now (a .row)) 0 0 ∷ getD (now (a .row)) 1 0 ∷ getD (now (a .row)) 2 0 ∷ []))
 
 pub put-head-spec : {M : Type 1} → statement M
-put-head-spec =
-    tie.close
-    (tie.spec
-    (λ c. search needs)
-    (λ c. search needs)
-    (λ c. search needs)
-    cast-out
-    slice-write-out-2
-    (λ c. search needs)
-    cast-out-2
-    slice-write-out-3
-    (λ c. search needs)
-    cast-out-3
-    slice-write-out-4
-    (λ c. search needs)
-    cast-out-4
-    slice-write-out-5
-    (λ c. search needs)
+put-head-spec = tie.close (tie.spec
+    (λ c. search needs) (λ c. search needs) (λ c. search needs) cast-out slice-write-out-2 (λ c. search needs) cast-out-2 slice-write-out-3
+    (λ c. search needs) cast-out-3 slice-write-out-4 (λ c. search needs) cast-out-4 slice-write-out-5 (λ c. search needs)
     (λ c. search needs))

@@ -20,20 +20,6 @@ returns-2 : tie.Need-returns-2
 returns-2 c = let a = c .before .args in put-known (now (a .out)) (a .at) (a .x) (c .if1 .left)
 
 pub put-option-spec : {M : Type 1} → statement M
-put-option-spec =
-    tie.close
-    (tie.spec
-    (λ c. search needs)
-    (λ c. search needs)
-    (λ c. search needs)
-    (λ c. search needs)
-    slice-write-out-2
-    (λ c. search needs)
-    returns
-    (λ c. search needs)
-    (λ c. search needs)
-    (λ c. search needs)
-    (λ c. search needs)
-    slice-write-out-4
-    (λ c. search needs)
-    returns-2)
+put-option-spec = tie.close (tie.spec
+    (λ c. search needs) (λ c. search needs) (λ c. search needs) (λ c. search needs) slice-write-out-2 (λ c. search needs) returns
+    (λ c. search needs) (λ c. search needs) (λ c. search needs) (λ c. search needs) slice-write-out-4 (λ c. search needs) returns-2)

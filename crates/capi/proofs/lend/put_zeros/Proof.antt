@@ -49,16 +49,5 @@ returns c =
     w .inv .2 ∙ ap (λ (n : ℕ). sets (now (a .out)) (a .from) (zeros (n - a .from))) e
 
 pub put-zeros-spec : {M : Type 1} → statement M
-put-zeros-spec =
-    tie.close
-    (tie.spec
-    Inv-loop
-    μ-loop
-    loop-holds
-    (λ c. omega arith)
-    slice-write-out
-    (λ c. omega arith)
-    loop-less
-    loop-again
-    same-length
-    returns)
+put-zeros-spec = tie.close (tie.spec
+    Inv-loop μ-loop loop-holds (λ c. omega arith) slice-write-out (λ c. omega arith) loop-less loop-again same-length returns)

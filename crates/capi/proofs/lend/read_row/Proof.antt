@@ -13,13 +13,6 @@ returns-2 : tie.Need-returns-2
 returns-2 c = all-read (c .before .before .before .before .before .before .before .before .before .before .before .before .before .before .before .before .args .number) (now (c .before .before .before .before .before .before .before .before .before .before .before .before .before .before .before .before .args .row)) (now (c .before .before .before .before .before .before .before .before .before .before .before .before .before .before .before .before .args .out)) (c .before .before .before .before .before .before .before .before .before .before .before .before .before .before .before .before .pre .2) _ _ _ (c .before .before .before .before .before .before .before .before .before .before .before .before .if1 .left) (c .before .before .before .before .before .before .before .before .before .before .put-head .ensures) (c .before .before .before .before .before .before .put-entries .ensures) (c .before .before .put-zeros .ensures)
 
 pub read-row-spec : {M : Type 1} → statement M
-read-row-spec = tie.close (tie.spec (λ c. search needs)
-    (λ c. omega (arith, c .shared-slice-known2 .given 3))
-    returns
-    (λ c κs. search needs)
-    (λ c κs. search needs)
-    (λ c. search needs)
-    (λ c. search needs)
-    (λ c κs. search needs)
-    (λ c. search needs)
-    returns-2)
+read-row-spec = tie.close (tie.spec
+    (λ c. search needs) (λ c. omega (arith, c .shared-slice-known2 .given 3)) returns (λ c κs. search needs) (λ c κs. search needs)
+    (λ c. search needs) (λ c. search needs) (λ c κs. search needs) (λ c. search needs) returns-2)

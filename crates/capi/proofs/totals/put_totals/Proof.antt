@@ -20,13 +20,5 @@ returns : tie.Need-returns
 returns c = five-stored (now (c .args .out)) _ _ _ _ _ (c .pre)
 
 pub put-totals-spec : {M : Type 1} → statement M
-put-totals-spec =
-    tie.close
-    (tie.spec
-    (λ c. search needs)
-    slice-write-out-2
-    slice-write-out-3
-    slice-write-out-4
-    (λ c. search needs)
-    (λ c. search needs)
-    returns)
+put-totals-spec = tie.close (tie.spec
+    (λ c. search needs) slice-write-out-2 slice-write-out-3 slice-write-out-4 (λ c. search needs) (λ c. search needs) returns)

@@ -18,5 +18,4 @@ returns-4 : tie.Need-returns-4
 returns-4 c = let a = c .before .before .before .args in long-month (a .year) (a .month) (c .before .before .if1 .left) (sym (c .before .has-thirty .ensures) ∙ c .if3 .left)
 
 pub days-in-spec : {M : Type 1} → statement M
-days-in-spec =
-    tie.close (tie.spec (λ c κs. search needs) returns returns-2 (λ c κs. search needs) returns-3 returns-4)
+days-in-spec = tie.close (tie.spec (λ c κs. search needs) returns returns-2 (λ c κs. search needs) returns-3 returns-4)

@@ -20,5 +20,4 @@ returns-5 : tie.Need-returns-5
 returns-5 c = let a = c .before .before .before .before .before .args in good-day (a .day) (a .month) (a .year) (c .before .before .before .before .if1 .left) (c .before .before .before .if2 .left) (c .before .before .if3 .left) (rw (c .before .days-in .ensures) at (c .if4 .left))
 
 pub on-calendar-spec : {M : Type 1} → statement M
-on-calendar-spec =
-    tie.close (tie.spec returns returns-2 returns-3 (λ c κs. search needs) returns-4 returns-5)
+on-calendar-spec = tie.close (tie.spec returns returns-2 returns-3 (λ c κs. search needs) returns-4 returns-5)

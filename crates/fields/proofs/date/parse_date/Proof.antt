@@ -23,24 +23,8 @@ returns-5 c = let f = c .before .before .before .on-calendar .ensures ∙ ap (λ
 
 pub parse-date-spec : {M : Type 1} → statement M
 unfolding date
-parse-date-spec =
-    tie.close
-    (tie.spec
-    (λ c κs. search needs)
-    (λ c. search needs)
-    (λ c. search needs)
-    (λ c. (search steps depth 12, refl))
-    (λ c κs. search needs)
-    (λ c. search needs)
-    (λ c. search needs)
-    (λ c. (search steps depth 12, refl))
-    (λ c κs. search needs)
-    (λ c. search needs)
-    (λ c. search needs)
-    (λ c. (search steps depth 12, refl))
-    full-year-requires
-    (λ c κs. search needs)
-    (λ c. search needs)
-    (λ c. search needs)
-    returns-4
-    returns-5)
+parse-date-spec = tie.close (tie.spec
+    (λ c κs. search needs) (λ c. search needs) (λ c. search needs) (λ c. (search steps depth 12, refl)) (λ c κs. search needs)
+    (λ c. search needs) (λ c. search needs) (λ c. (search steps depth 12, refl)) (λ c κs. search needs) (λ c. search needs)
+    (λ c. search needs) (λ c. (search steps depth 12, refl)) full-year-requires (λ c κs. search needs) (λ c. search needs)
+    (λ c. search needs) returns-4 returns-5)

@@ -8,15 +8,6 @@ use Rattle.fields.proofs.place.date_place.Tie as tie
 
 pub date-place-spec : {M : Type 1} → statement M
 unfolding withComma
-date-place-spec =
-    tie.close
-    (tie.spec
-    (λ c κs. search needs)
-    (λ c. search needs)
-    (λ c. search needs)
-    (λ c κs. search needs)
-    (λ c. search needs)
-    (λ c. search needs)
-    (λ c. (search commas depth 14, refl))
-    (λ c. (search commas depth 14, refl))
-    (λ c. (search commas depth 14, refl)))
+date-place-spec = tie.close (tie.spec
+    (λ c κs. search needs) (λ c. search needs) (λ c. search needs) (λ c κs. search needs) (λ c. search needs) (λ c. search needs)
+    (λ c. (search commas depth 14, refl)) (λ c. (search commas depth 14, refl)) (λ c. (search commas depth 14, refl)))

@@ -8,17 +8,7 @@ use Rattle.fields.proofs.place.position_place.Tie as tie
 
 pub position-place-spec : {M : Type 1} → statement M
 unfolding withComma
-position-place-spec =
-    tie.close
-    (tie.spec
-    (λ c κs. search needs)
-    (λ c. search needs)
-    (λ c. search needs)
-    (λ c κs. search needs)
-    (λ c. search needs)
-    (λ c. search needs)
-    (λ c. (search commas depth 14, refl))
-    (λ c. search needs)
-    (λ c. (search commas depth 14, refl))
-    (λ c. (search commas depth 14, refl))
+position-place-spec = tie.close (tie.spec
+    (λ c κs. search needs) (λ c. search needs) (λ c. search needs) (λ c κs. search needs) (λ c. search needs) (λ c. search needs)
+    (λ c. (search commas depth 14, refl)) (λ c. search needs) (λ c. (search commas depth 14, refl)) (λ c. (search commas depth 14, refl))
     (λ c. (search commas depth 14, refl)))

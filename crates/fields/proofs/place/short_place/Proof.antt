@@ -8,21 +8,8 @@ use Rattle.fields.proofs.place.short_place.Tie as tie
 
 pub short-place-spec : {M : Type 1} → statement M
 unfolding withComma
-short-place-spec =
-    tie.close
-    (tie.spec
-    (λ c κs. search needs)
-    (λ c. search needs)
-    (λ c κs. search needs)
-    (λ c. search needs)
-    (λ c. search needs)
-    (λ c. (search commas depth 14, refl))
-    (λ c. search needs)
-    (λ c κs. search needs)
-    (λ c. search needs)
-    (λ c. search needs)
-    (λ c. (search commas depth 14, refl))
-    (λ c. search needs)
-    (λ c. (search commas depth 14, refl))
-    (λ c. (search commas depth 14, refl))
+short-place-spec = tie.close (tie.spec
+    (λ c κs. search needs) (λ c. search needs) (λ c κs. search needs) (λ c. search needs) (λ c. search needs)
+    (λ c. (search commas depth 14, refl)) (λ c. search needs) (λ c κs. search needs) (λ c. search needs) (λ c. search needs)
+    (λ c. (search commas depth 14, refl)) (λ c. search needs) (λ c. (search commas depth 14, refl)) (λ c. (search commas depth 14, refl))
     (λ c. (search commas depth 14, refl)))

@@ -8,19 +8,7 @@ use Rattle.fields.proofs.place.time_place.Tie as tie
 
 pub time-place-spec : {M : Type 1} → statement M
 unfolding withComma
-time-place-spec =
-    tie.close
-    (tie.spec
-    (λ c κs. search needs)
-    (λ c. search needs)
-    (λ c. search needs)
-    (λ c κs. search needs)
-    (λ c. search needs)
-    (λ c. search needs)
-    (λ c. (search commas depth 14, refl))
-    (λ c. search needs)
-    (λ c. search needs)
-    (λ c. (search commas depth 14, refl))
-    (λ c. (search commas depth 14, refl))
-    (λ c. (search commas depth 14, refl))
-    (λ c. (search commas depth 14, refl)))
+time-place-spec = tie.close (tie.spec
+    (λ c κs. search needs) (λ c. search needs) (λ c. search needs) (λ c κs. search needs) (λ c. search needs) (λ c. search needs)
+    (λ c. (search commas depth 14, refl)) (λ c. search needs) (λ c. search needs) (λ c. (search commas depth 14, refl))
+    (λ c. (search commas depth 14, refl)) (λ c. (search commas depth 14, refl)) (λ c. (search commas depth 14, refl)))

@@ -8,16 +8,7 @@ use Rattle.fields.proofs.position.commas.Tie as tie
 
 pub commas-spec : {M : Type 1} → statement M
 unfolding commas
-commas-spec =
-    tie.close
-    (tie.spec
-    (λ c κs. search needs)
-    (λ c. search needs)
-    (λ c. search needs)
-    (λ c. (search steps depth 14, refl))
-    (λ c κs. search needs)
-    (λ c. search needs)
-    (λ c. search needs)
-    (λ c. (search steps depth 14, refl))
-    (λ c κs. search needs)
+commas-spec = tie.close (tie.spec
+    (λ c κs. search needs) (λ c. search needs) (λ c. search needs) (λ c. (search steps depth 14, refl)) (λ c κs. search needs)
+    (λ c. search needs) (λ c. search needs) (λ c. (search steps depth 14, refl)) (λ c κs. search needs)
     (λ c. (search steps depth 14, refl)))

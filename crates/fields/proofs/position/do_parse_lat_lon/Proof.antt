@@ -8,23 +8,8 @@ use Rattle.fields.proofs.position.do_parse_lat_lon.Tie as tie
 
 pub do-parse-lat-lon-spec : {M : Type 1} → statement M
 unfolding doLatLon
-do-parse-lat-lon-spec =
-    tie.close
-    (tie.spec
-    (λ c κs. search needs)
-    (λ c. search needs)
-    (λ c. search needs)
-    (λ c κs. search needs)
-    (λ c. search needs)
-    (λ c. search needs)
-    (λ c. (search steps depth 14, refl))
-    (λ c κs. search needs)
-    (λ c. search needs)
-    (λ c. search needs)
-    (λ c. search needs)
-    (λ c. search needs)
-    (λ c. (search steps depth 14, refl))
-    (λ c. (search steps depth 14, refl))
-    (λ c. (search steps depth 14, refl))
-    (λ c. (search steps depth 14, refl))
-    (λ c. (search steps depth 14, refl)))
+do-parse-lat-lon-spec = tie.close (tie.spec
+    (λ c κs. search needs) (λ c. search needs) (λ c. search needs) (λ c κs. search needs) (λ c. search needs) (λ c. search needs)
+    (λ c. (search steps depth 14, refl)) (λ c κs. search needs) (λ c. search needs) (λ c. search needs) (λ c. search needs)
+    (λ c. search needs) (λ c. (search steps depth 14, refl)) (λ c. (search steps depth 14, refl)) (λ c. (search steps depth 14, refl))
+    (λ c. (search steps depth 14, refl)) (λ c. (search steps depth 14, refl)))

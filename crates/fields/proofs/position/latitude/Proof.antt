@@ -15,6 +15,6 @@ cast-side c = omega (arith, fixed-limit 2 _ (took (c .before .before .before .tw
 
 pub latitude-spec : {M : Type 1} → statement M
 unfolding latitude
-latitude-spec =
-    tie.close
-    (tie.spec (λ c κs. search needs) (λ c. search needs) (λ c. search needs) (λ c. (search steps depth 14, refl)) cast-side (λ c κs. search needs) (λ c. (search steps depth 14, refl)))
+latitude-spec = tie.close (tie.spec
+    (λ c κs. search needs) (λ c. search needs) (λ c. search needs) (λ c. (search steps depth 14, refl)) cast-side (λ c κs. search needs)
+    (λ c. (search steps depth 14, refl)))

@@ -12,5 +12,4 @@ returns c =
     rw (e, c .before .signed-of .ensures, c .degrees-of .ensures)
 
 pub located-spec : {M : Type 1} → statement M
-located-spec =
-    tie.close (tie.spec (λ c. search needs) (λ c. search needs) (λ c κs. search needs) (λ c κs. search needs) returns)
+located-spec = tie.close (tie.spec (λ c. search needs) (λ c. search needs) (λ c κs. search needs) (λ c κs. search needs) returns)

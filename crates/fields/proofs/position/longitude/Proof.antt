@@ -15,6 +15,6 @@ cast-side c = omega (arith, fixed-limit 3 _ (took (c .before .before .before .th
 
 pub longitude-spec : {M : Type 1} → statement M
 unfolding longitude
-longitude-spec =
-    tie.close
-    (tie.spec (λ c κs. search needs) (λ c. search needs) (λ c. search needs) (λ c. (search steps depth 14, refl)) cast-side (λ c κs. search needs) (λ c. (search steps depth 14, refl)))
+longitude-spec = tie.close (tie.spec
+    (λ c κs. search needs) (λ c. search needs) (λ c. search needs) (λ c. (search steps depth 14, refl)) cast-side (λ c κs. search needs)
+    (λ c. (search steps depth 14, refl)))

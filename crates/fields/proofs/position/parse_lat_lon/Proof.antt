@@ -24,17 +24,6 @@ unfolding latLon
 returns-4 c = (alt-second _ _ (search steps depth 14) (search steps depth 14), refl)
 
 pub parse-lat-lon-spec : {M : Type 1} → statement M
-parse-lat-lon-spec =
-    tie.close
-    (tie.spec
-    (λ c κs. search needs)
-    (λ c. search needs)
-    (λ c. search needs)
-    (λ c κs. search needs)
-    (λ c. search needs)
-    (λ c. search needs)
-    (λ c. search needs)
-    returns
-    returns-2
-    returns-3
-    returns-4)
+parse-lat-lon-spec = tie.close (tie.spec
+    (λ c κs. search needs) (λ c. search needs) (λ c. search needs) (λ c κs. search needs) (λ c. search needs) (λ c. search needs)
+    (λ c. search needs) returns returns-2 returns-3 returns-4)

@@ -16,22 +16,7 @@ returns-4 c = (rw (c .located .ensures) (search steps depth 14), refl)
 
 pub side-spec : {M : Type 1} → statement M
 unfolding side
-side-spec =
-    tie.close
-    (tie.spec
-    (λ c κs. search needs)
-    (λ c. search needs)
-    (λ c. search needs)
-    (λ c κs. search needs)
-    (λ c. search needs)
-    (λ c. search needs)
-    (λ c. (search steps depth 14, refl))
-    (λ c κs. search needs)
-    (λ c. search needs)
-    (λ c. search needs)
-    (λ c. (search steps depth 14, refl))
-    located-requires
-    (λ c. search needs)
-    (λ c. (search steps depth 14, refl))
-    returns-4
-    (λ c. (search steps depth 14, refl)))
+side-spec = tie.close (tie.spec
+    (λ c κs. search needs) (λ c. search needs) (λ c. search needs) (λ c κs. search needs) (λ c. search needs) (λ c. search needs)
+    (λ c. (search steps depth 14, refl)) (λ c κs. search needs) (λ c. search needs) (λ c. search needs) (λ c. (search steps depth 14, refl))
+    located-requires (λ c. search needs) (λ c. (search steps depth 14, refl)) returns-4 (λ c. (search steps depth 14, refl)))

@@ -44,13 +44,4 @@ returns-5 c =
     )
 
 pub on-clock-spec : {M : Type 1} → statement M
-on-clock-spec =
-    tie.close
-    (tie.spec
-    returns
-    returns-2
-    returns-3
-    returns-4
-    (λ c. search needs)
-    (λ c. search needs)
-    returns-5)
+on-clock-spec = tie.close (tie.spec returns returns-2 returns-3 returns-4 (λ c. search needs) (λ c. search needs) returns-5)

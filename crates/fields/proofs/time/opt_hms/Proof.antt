@@ -19,15 +19,6 @@ returns-4 : tie.Need-returns-4
 returns-4 c = (opt-bad _ (c .before .before .parse-hms .ensures .0) (ap timeRead (c .enum-told3 .given .1)), refl)
 
 pub opt-hms-spec : {M : Type 1} → statement M
-opt-hms-spec =
-    tie.close
-    (tie.spec
-    (λ c κs. search needs)
-    (λ c. search needs)
-    (λ c. search needs)
-    (λ c. search needs)
-    (λ c. search needs)
-    returns
-    returns-2
-    returns-3
+opt-hms-spec = tie.close (tie.spec
+    (λ c κs. search needs) (λ c. search needs) (λ c. search needs) (λ c. search needs) (λ c. search needs) returns returns-2 returns-3
     returns-4)

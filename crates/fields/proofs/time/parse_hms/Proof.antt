@@ -12,22 +12,8 @@ on-clock-requires c κs = let f = long-held (c .before .before .before .long-dec
 
 pub parse-hms-spec : {M : Type 1} → statement M
 unfolding hms
-parse-hms-spec =
-    tie.close
-    (tie.spec
-    (λ c κs. search needs)
-    (λ c. search needs)
-    (λ c. search needs)
-    (λ c. (search steps depth 14, refl))
-    (λ c κs. search needs)
-    (λ c. search needs)
-    (λ c. search needs)
-    (λ c. (search steps depth 14, refl))
-    (λ c κs. search needs)
-    (λ c. search needs)
-    (λ c. search needs)
-    on-clock-requires
-    (λ c. search needs)
-    (λ c. (search steps depth 14, refl))
-    (λ c. (search steps depth 14, refl))
+parse-hms-spec = tie.close (tie.spec
+    (λ c κs. search needs) (λ c. search needs) (λ c. search needs) (λ c. (search steps depth 14, refl)) (λ c κs. search needs)
+    (λ c. search needs) (λ c. search needs) (λ c. (search steps depth 14, refl)) (λ c κs. search needs) (λ c. search needs)
+    (λ c. search needs) on-clock-requires (λ c. search needs) (λ c. (search steps depth 14, refl)) (λ c. (search steps depth 14, refl))
     (λ c. (search steps depth 14, refl)))

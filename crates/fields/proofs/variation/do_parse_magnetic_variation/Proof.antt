@@ -16,22 +16,7 @@ returns-4 c = (rw (c .turned .ensures) (search steps depth 14), refl)
 
 pub do-parse-magnetic-variation-spec : {M : Type 1} → statement M
 unfolding doVariation
-do-parse-magnetic-variation-spec =
-    tie.close
-    (tie.spec
-    (λ c κs. search needs)
-    (λ c. search needs)
-    (λ c. search needs)
-    (λ c κs. search needs)
-    (λ c. search needs)
-    (λ c. search needs)
-    (λ c. (search steps depth 14, refl))
-    (λ c κs. search needs)
-    (λ c. search needs)
-    (λ c. search needs)
-    (λ c. (search steps depth 14, refl))
-    turned-requires
-    (λ c. search needs)
-    (λ c. (search steps depth 14, refl))
-    returns-4
-    (λ c. (search steps depth 14, refl)))
+do-parse-magnetic-variation-spec = tie.close (tie.spec
+    (λ c κs. search needs) (λ c. search needs) (λ c. search needs) (λ c κs. search needs) (λ c. search needs) (λ c. search needs)
+    (λ c. (search steps depth 14, refl)) (λ c κs. search needs) (λ c. search needs) (λ c. search needs) (λ c. (search steps depth 14, refl))
+    turned-requires (λ c. search needs) (λ c. (search steps depth 14, refl)) returns-4 (λ c. (search steps depth 14, refl)))

@@ -18,6 +18,5 @@ returns-3 : tie.Need-returns-3
 returns-3 c = (sym (frame-bad (now (c .before .before .before .before .before .args .s)) (sym (c .before .is-utf8 .ensures .0) ∙ c .if2 .left)), refl)
 
 pub parse-nmea-sentence-spec : {M : Type 1} → statement M
-parse-nmea-sentence-spec =
-    tie.close
-    (tie.spec (λ c κs. search needs) (λ c κs. search needs) returns (λ c κs. search needs) returns-2 returns-3)
+parse-nmea-sentence-spec = tie.close (tie.spec
+    (λ c κs. search needs) (λ c κs. search needs) returns (λ c κs. search needs) returns-2 returns-3)

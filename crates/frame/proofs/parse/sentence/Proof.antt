@@ -49,34 +49,10 @@ returns-8 c =
 
 pub sentence-spec : {M : Type 1} → statement M
 unfolding sentence
-sentence-spec =
-    tie.close
-    (tie.spec
-    (λ c κs. search needs)
-    (λ c. search needs)
-    (λ c. search needs)
-    (λ c. (search steps depth 14, refl))
-    (λ c κs. search needs)
-    (λ c. search needs)
-    (λ c. search needs)
-    (λ c. (search steps depth 14, refl))
-    (λ c κs. search needs)
-    (λ c. search needs)
-    (λ c. (search steps depth 14, refl))
-    (λ c. search needs)
-    (λ c. (search steps depth 14, refl))
-    (λ c. search needs)
-    (λ c κs. search needs)
-    (λ c. search needs)
-    (λ c. search needs)
-    (λ c. (search steps depth 14, refl))
-    (λ c κs. search needs)
-    (λ c. search needs)
-    (λ c. search needs)
-    (λ c. (search steps depth 14, refl))
-    (λ c κs. search needs)
-    (λ c. search needs)
-    (λ c. search needs)
-    returns-7
-    (λ c κs. search needs)
-    returns-8)
+sentence-spec = tie.close (tie.spec
+    (λ c κs. search needs) (λ c. search needs) (λ c. search needs) (λ c. (search steps depth 14, refl)) (λ c κs. search needs)
+    (λ c. search needs) (λ c. search needs) (λ c. (search steps depth 14, refl)) (λ c κs. search needs) (λ c. search needs)
+    (λ c. (search steps depth 14, refl)) (λ c. search needs) (λ c. (search steps depth 14, refl)) (λ c. search needs) (λ c κs. search needs)
+    (λ c. search needs) (λ c. search needs) (λ c. (search steps depth 14, refl)) (λ c κs. search needs) (λ c. search needs)
+    (λ c. search needs) (λ c. (search steps depth 14, refl)) (λ c κs. search needs) (λ c. search needs) (λ c. search needs) returns-7
+    (λ c κs. search needs) returns-8)

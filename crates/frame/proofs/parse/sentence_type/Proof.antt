@@ -29,17 +29,6 @@ returns-4 c =
     (bad-read (unknown-type (now (a .s)) (a .at) (omega arith) (sym (c .before .known .ensures) ∙ c .if3 .left)), refl)
 
 pub sentence-type-spec : {M : Type 1} → statement M
-sentence-type-spec =
-    tie.close
-    (tie.spec
-    returns
-    (λ c. search needs)
-    returns-2
-    (λ c. search needs)
-    (λ c. search needs)
-    (λ c. search needs)
-    (λ c. search needs)
-    (λ c. search needs)
-    (λ c κs. search needs)
-    returns-3
-    returns-4)
+sentence-type-spec = tie.close (tie.spec
+    returns (λ c. search needs) returns-2 (λ c. search needs) (λ c. search needs) (λ c. search needs) (λ c. search needs)
+    (λ c. search needs) (λ c κs. search needs) returns-3 returns-4)

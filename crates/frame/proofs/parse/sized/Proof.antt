@@ -33,15 +33,6 @@ returns-4 c =
     )
 
 pub sized-spec : {M : Type 1} → statement M
-sized-spec =
-    tie.close
-    (tie.spec
-    returns
-    (λ c κs. search needs)
-    (λ c. search needs)
-    (λ c. search needs)
-    (λ c. search needs)
-    (λ c κs. search needs)
-    returns-2
-    returns-3
+sized-spec = tie.close (tie.spec
+    returns (λ c κs. search needs) (λ c. search needs) (λ c. search needs) (λ c. search needs) (λ c κs. search needs) returns-2 returns-3
     returns-4)

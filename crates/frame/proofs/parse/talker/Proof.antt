@@ -19,6 +19,5 @@ returns-3 : tie.Need-returns-3
 returns-3 c = let a = c .before .before .before .before .args in (a-read (ap (taken 2) (next-two (now (a .s)) (a .at) (omega arith)) ∙ two-of _ _ _) (omega arith) (omega arith), refl)
 
 pub talker-spec : {M : Type 1} → statement M
-talker-spec =
-    tie.close
-    (tie.spec returns (λ c. search needs) returns-2 (λ c. search needs) (λ c. search needs) (λ c. search needs) returns-3)
+talker-spec = tie.close (tie.spec
+    returns (λ c. search needs) returns-2 (λ c. search needs) (λ c. search needs) (λ c. search needs) returns-3)

@@ -62,23 +62,6 @@ unfolding types
 returns-5 c = sym (c .before .loop .inv .2 ∙ nowhere types _ [] _ (c .loop-test .left))
 
 pub known-spec : {M : Type 1} → statement M
-known-spec =
-    tie.close
-    (tie.spec
-    Inv-loop
-    μ-loop
-    (λ c κs. search needs)
-    returns
-    (λ c κs. search needs)
-    returns-2
-    (λ c κs. search needs)
-    returns-3
-    loop-holds
-    (λ c. search needs)
-    (λ c. search needs)
-    (λ c κs. search needs)
-    returns-4
-    (λ c. search needs)
-    (λ c. search needs)
-    loop-again
-    returns-5)
+known-spec = tie.close (tie.spec
+    Inv-loop μ-loop (λ c κs. search needs) returns (λ c κs. search needs) returns-2 (λ c κs. search needs) returns-3 loop-holds
+    (λ c. search needs) (λ c. search needs) (λ c κs. search needs) returns-4 (λ c. search needs) (λ c. search needs) loop-again returns-5)

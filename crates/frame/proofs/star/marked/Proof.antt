@@ -29,15 +29,5 @@ returns c =
     (sym (k .loop .inv ∙ all-marked (now (a .s)) (k .loop .i) (a .to) _ (omega arith)), refl)
 
 pub marked-spec : {M : Type 1} → statement M
-marked-spec =
-    tie.close
-    (tie.spec
-    Inv-loop
-    μ-loop
-    (λ c. refl)
-    (λ c. search needs)
-    (λ c κs. search needs)
-    (λ c. search needs)
-    (λ c. search needs)
-    loop-again
-    returns)
+marked-spec = tie.close (tie.spec
+    Inv-loop μ-loop (λ c. refl) (λ c. search needs) (λ c κs. search needs) (λ c. search needs) (λ c. search needs) loop-again returns)

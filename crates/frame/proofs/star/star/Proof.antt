@@ -19,6 +19,5 @@ returns c =
     (a-read (ends-there s (a .at) (length s - 3) (omega arith) (omega arith) (there .if3 .taken) clear) (omega arith) (omega arith), refl)
 
 pub star-spec : {M : Type 1} → statement M
-star-spec =
-    tie.close
-    (tie.spec (λ c. search needs) (λ c. search needs) (λ c κs. search needs) returns (λ c κs. search needs) (λ c. search needs))
+star-spec = tie.close (tie.spec
+    (λ c. search needs) (λ c. search needs) (λ c κs. search needs) returns (λ c κs. search needs) (λ c. search needs))

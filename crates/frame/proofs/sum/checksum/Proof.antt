@@ -29,6 +29,5 @@ returns c =
     (sym (k .loop .inv ∙ sum-end (now (a .s)) (k .loop .i) (a .to) _ (omega arith)), refl)
 
 pub checksum-spec : {M : Type 1} → statement M
-checksum-spec =
-    tie.close
-    (tie.spec Inv-loop μ-loop (λ c κs. search needs) (λ c. refl) (λ c. search needs) (λ c. search needs) (λ c. search needs) loop-again returns)
+checksum-spec = tie.close (tie.spec
+    Inv-loop μ-loop (λ c κs. search needs) (λ c. refl) (λ c. search needs) (λ c. search needs) (λ c. search needs) loop-again returns)

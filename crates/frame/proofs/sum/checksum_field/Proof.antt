@@ -39,22 +39,6 @@ returns-6 c =
     (a-read (got-field (now (a .s)) (a .at) (omega arith) (c .before .before .before .before .before .before .if3 .left) (c .before .before .before .before .lead-unit .ensures) (c .before .unit .ensures) (c .before .before .before .if4 .left) (c .if5 .left)) (omega arith) (omega arith), refl)
 
 pub checksum-field-spec : {M : Type 1} → statement M
-checksum-field-spec =
-    tie.close
-    (tie.spec
-    returns
-    (λ c. search needs)
-    returns-2
-    (λ c. search needs)
-    returns-3
-    (λ c. search needs)
-    (λ c. search needs)
-    (λ c κs. search needs)
-    returns-4
-    (λ c. search needs)
-    (λ c. search needs)
-    (λ c κs. search needs)
-    returns-5
-    (λ c. search needs)
-    (λ c. search needs)
-    returns-6)
+checksum-field-spec = tie.close (tie.spec
+    returns (λ c. search needs) returns-2 (λ c. search needs) returns-3 (λ c. search needs) (λ c. search needs) (λ c κs. search needs)
+    returns-4 (λ c. search needs) (λ c. search needs) (λ c κs. search needs) returns-5 (λ c. search needs) (λ c. search needs) returns-6)

@@ -29,15 +29,4 @@ returns-7 : tie.Need-returns-7
 returns-7 c = sym (ap orSixteen (none-above (c .before .before .before .before .before .before .args .b) (omega arith)))
 
 pub unit-spec : {M : Type 1} → statement M
-unit-spec =
-    tie.close
-    (tie.spec
-    (λ c. search needs)
-    (λ c. search needs)
-    returns
-    returns-2
-    returns-3
-    returns-4
-    returns-5
-    returns-6
-    returns-7)
+unit-spec = tie.close (tie.spec (λ c. search needs) (λ c. search needs) returns returns-2 returns-3 returns-4 returns-5 returns-6 returns-7)

@@ -50,15 +50,5 @@ returns-2 c =
     sym (l .inv .1 ∙ ap (allWithin (a .ids) (a .max)) (cells-none (now (a .row)) (a .count) (l .i) (c .loop-test .left)))
 
 pub all-within-spec : {M : Type 1} → statement M
-all-within-spec =
-    tie.close
-    (tie.spec
-    Inv-loop
-    μ-loop
-    loop-holds
-    (λ c κs. search needs)
-    returns
-    (λ c. omega arith)
-    (λ c. omega arith)
-    loop-again
-    returns-2)
+all-within-spec = tie.close (tie.spec
+    Inv-loop μ-loop loop-holds (λ c κs. search needs) returns (λ c. omega arith) (λ c. omega arith) loop-again returns-2)

@@ -47,17 +47,6 @@ returns c =
     pack-end _ (now (a .row)) (a .count) (l .i) (l .p) (omega arith) (l .inv .3) ∙ ap (λ (r : ℕ). pieceCount entrySize r (satsFrom 0 (a .count) (now (a .row)))) (l .inv .0)
 
 pub pieces-spec : {M : Type 1} → statement M
-pieces-spec =
-    tie.close
-    (tie.spec
-    Inv-loop
-    μ-loop
-    (λ c κs. search needs)
-    (λ c. search needs)
-    loop-holds
-    (λ c κs. search needs)
-    pile-on-requires
-    (λ c. omega arith)
-    (λ c. omega arith)
-    loop-again
-    returns)
+pieces-spec = tie.close (tie.spec
+    Inv-loop μ-loop (λ c κs. search needs) (λ c. search needs) loop-holds (λ c κs. search needs) pile-on-requires (λ c. omega arith)
+    (λ c. omega arith) loop-again returns)

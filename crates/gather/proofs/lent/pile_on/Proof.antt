@@ -15,4 +15,5 @@ returns-3 : tie.Need-returns-3
 returns-3 c = let a = c .before .before .before .before .before .args in put-here (a .p) (a .w) (a .room) (omega arith) (omega arith)
 
 pub pile-on-spec : {M : Type 1} → statement M
-pile-on-spec = tie.close (tie.spec (λ c. search needs) returns (λ c. search needs) (λ c. search needs) returns-2 (λ c. search needs) returns-3)
+pile-on-spec = tie.close (tie.spec
+    (λ c. search needs) returns (λ c. search needs) (λ c. search needs) returns-2 (λ c. search needs) returns-3)

@@ -97,26 +97,7 @@ returns-9 c =
     (exact _ _ head (passed _ _ (c .before .before .all-within2 .ensures) (c .before .if8 .left)) (c .pieces .ensures), refl)
 
 pub row-stands-spec : {M : Type 1} → statement M
-row-stands-spec =
-    tie.close
-    (tie.spec
-    returns
-    (λ c. search needs)
-    returns-2
-    (λ c. search needs)
-    returns-3
-    returns-4
-    (λ c. search needs)
-    returns-5
-    (λ c. search needs)
-    (λ c. omega (arith, c .shared-slice-known5 .given 3))
-    returns-6
-    (λ c. search needs)
-    (λ c. search needs)
-    (λ c κs. search needs)
-    (λ c. search needs)
-    returns-7
-    (λ c κs. search needs)
-    returns-8
-    (λ c κs. search needs)
-    returns-9)
+row-stands-spec = tie.close (tie.spec
+    returns (λ c. search needs) returns-2 (λ c. search needs) returns-3 returns-4 (λ c. search needs) returns-5 (λ c. search needs)
+    (λ c. omega (arith, c .shared-slice-known5 .given 3)) returns-6 (λ c. search needs) (λ c. search needs) (λ c κs. search needs)
+    (λ c. search needs) returns-7 (λ c κs. search needs) returns-8 (λ c κs. search needs) returns-9)

@@ -19,14 +19,5 @@ returns-4 c =
     (c .row-stands .ensures .0)
 
 pub goes-on-spec : {M : Type 1} → statement M
-goes-on-spec =
-    tie.close
-    (tie.spec
-    (λ c. search needs)
-    returns
-    (λ c. search needs)
-    returns-2
-    (λ c. search needs)
-    returns-3
-    (λ c κs. search needs)
-    returns-4)
+goes-on-spec = tie.close (tie.spec
+    (λ c. search needs) returns (λ c. search needs) returns-2 (λ c. search needs) returns-3 (λ c κs. search needs) returns-4)

@@ -113,26 +113,7 @@ returns-4 c =
     waits ws g long (b .result) x _ _ (c .before .before .before .put-slots .ensures) (c .if3 .left)
 
 pub put-spec : {M : Type 1} → statement M
-put-spec =
-    tie.close
-    (tie.spec
-    returns
-    (λ c κs. search needs)
-    (λ c. search needs)
-    (λ c. search needs)
-    returns-2
-    put-slots-requires
-    (λ c. search needs)
-    slice-write-row-3
-    slice-write-row-4
-    cast-row
-    slice-write-row-5
-    (λ c. search needs)
-    returns-3
-    add-row
-    slice-write-row-6
-    slice-write-row-7
-    cast-row-2
-    slice-write-row-8
-    (λ c. search needs)
-    returns-4)
+put-spec = tie.close (tie.spec
+    returns (λ c κs. search needs) (λ c. search needs) (λ c. search needs) returns-2 put-slots-requires (λ c. search needs)
+    slice-write-row-3 slice-write-row-4 cast-row slice-write-row-5 (λ c. search needs) returns-3 add-row slice-write-row-6 slice-write-row-7
+    cast-row-2 slice-write-row-8 (λ c. search needs) returns-4)

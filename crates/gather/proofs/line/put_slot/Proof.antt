@@ -25,28 +25,8 @@ returns-2 c =
     stored-some (now (a .row)) (a .k) (a .s) _ _ _ _ (c .before .before .before .before .s .given .1) (c .before .before .word .ensures) (c .before .word2 .ensures) (c .word3 .ensures)
 
 pub put-slot-spec : {M : Type 1} → statement M
-put-slot-spec =
-    tie.close
-    (tie.spec
-    (λ c. search needs)
-    (λ c. search needs)
-    (λ c. search needs)
-    (λ c. search needs)
-    (λ c. search needs)
-    (λ c. search needs)
-    (λ c κs. search needs)
-    (λ c. search needs)
-    (λ c. search needs)
-    slice-write-row-2
-    (λ c κs. search needs)
-    (λ c. search needs)
-    (λ c. search needs)
-    slice-write-row-3
-    (λ c κs. search needs)
-    (λ c. search needs)
-    (λ c. search needs)
-    slice-write-row-4
-    (λ c. search needs)
-    returns
-    (λ c. search needs)
-    returns-2)
+put-slot-spec = tie.close (tie.spec
+    (λ c. search needs) (λ c. search needs) (λ c. search needs) (λ c. search needs) (λ c. search needs) (λ c. search needs)
+    (λ c κs. search needs) (λ c. search needs) (λ c. search needs) slice-write-row-2 (λ c κs. search needs) (λ c. search needs)
+    (λ c. search needs) slice-write-row-3 (λ c κs. search needs) (λ c. search needs) (λ c. search needs) slice-write-row-4
+    (λ c. search needs) returns (λ c. search needs) returns-2)

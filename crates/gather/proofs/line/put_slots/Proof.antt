@@ -45,12 +45,5 @@ returns c =
     (c .before .before .before .before .before .before .before .before .before .before .before .before .before .before .put-slot .ensures) (c .before .before .before .before .before .before .before .before .before .before .put-slot2 .ensures) (c .before .before .before .before .before .before .put-slot3 .ensures) (c .before .before .put-slot4 .ensures)
 
 pub put-slots-spec : {M : Type 1} → statement M
-put-slots-spec =
-    tie.close
-    (tie.spec
-    (λ c κs. search needs)
-    put-slot-requires-2
-    put-slot-requires-3
-    put-slot-requires-4
-    (λ c. search needs)
-    returns)
+put-slots-spec = tie.close (tie.spec
+    (λ c κs. search needs) put-slot-requires-2 put-slot-requires-3 put-slot-requires-4 (λ c. search needs) returns)

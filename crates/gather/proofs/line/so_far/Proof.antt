@@ -39,14 +39,4 @@ returns-5 c =
     gone-on (now (a .row)) (a .n) (a .number) (a .view) (c .before .before .before .if1 .left) (passed _ _ (c .before .before .goes-on .ensures) (c .before .if4 .left))
 
 pub so-far-spec : {M : Type 1} → statement M
-so-far-spec =
-    tie.close
-    (tie.spec
-    returns
-    returns-2
-    returns-3
-    (λ c κs. search needs)
-    returns-4
-    (λ c. search needs)
-    cast-t11
-    returns-5)
+so-far-spec = tie.close (tie.spec returns returns-2 returns-3 (λ c κs. search needs) returns-4 (λ c. search needs) cast-t11 returns-5)

@@ -19,15 +19,10 @@ returns-2 c = let mine = c .before .before .before .before .row-of .ensures ∙ 
     gathers (now (c .before .before .before .before .before .before .before .before .args .table)) (lineOf (gsvSentence (c .before .before .before .before .before .before .before .before .args .line))) (c .before .before .before .before .row-of .result) _ _ mine (row-below (sourceOf (gsvSentence (c .before .before .before .before .before .before .before .before .args .line)))) (c .before .before .before .before .before .before .if1 .left) (c .before .before .put .ensures)
 
 pub gather-spec : {M : Type 1} → statement M
-gather-spec = tie.close (tie.spec returns
-    (λ c κs. search needs)
-    (λ c κs. search needs)
+gather-spec = tie.close (tie.spec
+    returns (λ c κs. search needs) (λ c κs. search needs)
     (λ c. omega (arith, c .row-of .ensures, row-below (source (c .before .source-of .result))))
     (λ c. omega (arith, c .row-of .ensures, row-below (source (c .before .source-of .result))))
-    (λ c. omega (arith, c .row-of .ensures, row-below (source (c .before .source-of .result))))
-    (λ c. search needs)
-    (λ c. search needs)
-    (λ c. omega (arith, c .row-of .ensures, row-below (source (c .before .source-of .result))))
-    (λ c κs. search needs)
-    (λ c. search needs)
+    (λ c. omega (arith, c .row-of .ensures, row-below (source (c .before .source-of .result)))) (λ c. search needs) (λ c. search needs)
+    (λ c. omega (arith, c .row-of .ensures, row-below (source (c .before .source-of .result)))) (λ c κs. search needs) (λ c. search needs)
     returns-2)

@@ -13,7 +13,4 @@ returns : tie.Need-returns
 returns c = let h = number-within (gnss (c .before .args .s .system)) in omega (arith, h .0, c .system-number .ensures)
 
 pub row-of-spec : {M : Type 1} → statement M
-row-of-spec = tie.close (tie.spec (λ c κs. search needs)
-    (λ c. search needs)
-    sub-result
-    returns)
+row-of-spec = tie.close (tie.spec (λ c κs. search needs) (λ c. search needs) sub-result returns)

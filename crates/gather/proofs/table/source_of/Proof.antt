@@ -7,5 +7,4 @@ use Rattle.gather.proofs.table.source_of.Statement.{statement}
 use Rattle.gather.proofs.table.source_of.Tie as tie
 
 pub source-of-spec : {M : Type 1} → statement M
-source-of-spec = tie.close (tie.spec (λ c κs. search needs)
-    (λ c. ap (λ (x : System). record { system = x }) (c .gnss-type .ensures)))
+source-of-spec = tie.close (tie.spec (λ c κs. search needs) (λ c. ap (λ (x : System). record { system = x }) (c .gnss-type .ensures)))

@@ -13,13 +13,6 @@ cast-signed c =
     wider z f
 
 pub short-decimal-spec : {M : Type 1} → statement M
-short-decimal-spec =
-    tie.close
-    (tie.spec
-    cast-signed
-    (λ c κs. search needs)
-    (λ c κs. search needs)
-    (λ c κs. search needs)
-    (λ c. search needs)
-    (λ c κs. search needs)
+short-decimal-spec = tie.close (tie.spec
+    cast-signed (λ c κs. search needs) (λ c κs. search needs) (λ c κs. search needs) (λ c. search needs) (λ c κs. search needs)
     (λ c. search needs))

@@ -17,16 +17,6 @@ cast-number-2 : tie.Need-cast-number-2
 cast-number-2 c = above (c .before .args .z) (c .before .fits .z) (c .if1 .left)
 
 pub signed-spec : {M : Type 1} → statement M
-signed-spec =
-    tie.close
-    (tie.spec
-    sub-m
-    (λ c. search needs)
-    (λ c κs. search needs)
-    cast-number
-    add-number
-    (λ c κs. search needs)
-    cast-number-2
-    (λ c κs. search needs)
-    (λ c. search needs)
-    (λ c. search needs))
+signed-spec = tie.close (tie.spec
+    sub-m (λ c. search needs) (λ c κs. search needs) cast-number add-number (λ c κs. search needs) cast-number-2 (λ c κs. search needs)
+    (λ c. search needs) (λ c. search needs))

@@ -34,16 +34,6 @@ returns c =
     λ e. l .loop .inv .1 e ∙ ap (λ k. k + length (stretch (drop (s .args .at + k) (now (s .args .log))))) z
 
 pub feeds-spec : {M : Type 1} → statement M
-feeds-spec =
-    tie.close
-    (tie.spec
-    Inv-loop
-    μ-loop
-    loop-holds
-    (λ c. omega arith)
-    (λ c. omega arith)
-    (λ c κs. search needs)
-    (λ c. search needs)
-    (λ c. search needs)
-    loop-again
-    returns)
+feeds-spec = tie.close (tie.spec
+    Inv-loop μ-loop loop-holds (λ c. omega arith) (λ c. omega arith) (λ c κs. search needs) (λ c. search needs) (λ c. search needs)
+    loop-again returns)

@@ -18,5 +18,4 @@ returns-4 : tie.Need-returns-4
 returns-4 c = (sym (place-feed _ _ (c .before .before .before .if1 .left) (c .before .before .if2 .left)), refl)
 
 pub is-place-spec : {M : Type 1} → statement M
-is-place-spec =
-    tie.close (tie.spec returns returns-2 returns-3 (λ c. search needs) (λ c. search needs) returns-4)
+is-place-spec = tie.close (tie.spec returns returns-2 returns-3 (λ c. search needs) (λ c. search needs) returns-4)

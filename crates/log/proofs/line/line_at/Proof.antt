@@ -15,12 +15,6 @@ returns-2 c = here-read (now (c .before .before .before .before .before .before 
     (c .before .before .before .before .before .line-cut .ensures) (c .before .before .before .before .line-next .ensures) (c .before .before .before .if1 .left) _ refl (c .before .parse-bytes .result) (c .before .parse-bytes .ensures .0)
 
 pub line-at-spec : {M : Type 1} → statement M
-line-at-spec = tie.close (tie.spec (λ c κs. search needs)
-    (λ c κs. search needs)
-    (λ c κs. search needs)
-    returns
-    (λ c. search needs)
-    (λ c. search needs)
-    (λ c. search needs)
-    (λ c κs. search needs)
-    returns-2)
+line-at-spec = tie.close (tie.spec
+    (λ c κs. search needs) (λ c κs. search needs) (λ c κs. search needs) returns (λ c. search needs) (λ c. search needs) (λ c. search needs)
+    (λ c κs. search needs) returns-2)

@@ -42,5 +42,4 @@ returns-3 c =
     }
 
 pub line-cut-spec : {M : Type 1} → statement M
-line-cut-spec =
-    tie.close (tie.spec returns (λ c. search needs) shared-slice-read-if2 (λ c. search needs) returns-2 returns-3)
+line-cut-spec = tie.close (tie.spec returns (λ c. search needs) shared-slice-read-if2 (λ c. search needs) returns-2 returns-3)

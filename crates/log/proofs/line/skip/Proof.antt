@@ -27,17 +27,6 @@ returns-3 : tie.Need-returns-3 Inv-loop μ-loop
 returns-3 c = c .before .loop .inv
 
 pub skip-spec : {M : Type 1} → statement M
-skip-spec =
-    tie.close
-    (tie.spec
-    Inv-loop
-    μ-loop
-    (λ c. refl)
-    (λ c. search needs)
-    returns
-    (λ c κs. omega arith)
-    returns-2
-    (λ c. search needs)
-    (λ c. omega arith)
-    loop-again
-    returns-3)
+skip-spec = tie.close (tie.spec
+    Inv-loop μ-loop (λ c. refl) (λ c. search needs) returns (λ c κs. omega arith) returns-2 (λ c. search needs) (λ c. omega arith)
+    loop-again returns-3)

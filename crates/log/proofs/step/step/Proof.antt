@@ -24,14 +24,6 @@ returns-4 : tie.Need-returns-4
 returns-4 c = (step-line (now (c .before .before .before .before .before .before .before .before .before .before .before .before .args .log)) (c .before .before .before .before .before .before .before .before .before .before .before .before .args .place) (now (c .before .before .before .before .before .before .before .before .before .before .before .before .args .words)) (c .before .before .before .before .before .before .before .before .before .if1 .left) (c .before .before .before .before .before .before .before .before .is-place .ensures .0) (c .before .before .before .before .before .before .before .if2 .left) (c .before .before .before .before .before .before .if3 .left) (c .before .before .before .before .before .line-at .result) (c .before .before .before .before .before .line-at .ensures) (c .before .before .follow-line .ensures), refl)
 
 pub step-spec : {M : Type 1} → statement M
-step-spec = tie.close (tie.spec (λ c κs. search needs)
-    returns
-    (λ c κs. search needs)
-    (λ c κs. search needs)
-    returns-2
-    (λ c κs. search needs)
-    returns-3
-    line-at-requires
-    (λ c κs. search needs)
-    (λ c. search needs)
-    returns-4)
+step-spec = tie.close (tie.spec
+    (λ c κs. search needs) returns (λ c κs. search needs) (λ c κs. search needs) returns-2 (λ c κs. search needs) returns-3 line-at-requires
+    (λ c κs. search needs) (λ c. search needs) returns-4)

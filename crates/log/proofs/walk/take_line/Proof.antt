@@ -20,16 +20,6 @@ returns-2 c = let l = now (c .before .before .before .before .before .before .be
     (c .before .before .before .before .before .before .before .before .before .before .line-cut .ensures) (c .before .before .before .before .before .before .before .before .before .line-next .ensures) (c .before .before .before .before .before .before .before .before .if1 .left) _ refl (c .before .before .before .before .before .before .parse-bytes .result) (c .before .before .before .before .before .before .parse-bytes .ensures .0)) (c .before .before .before .follow .ensures) (c .before .before .before .before .before .sort-of .ensures) (c .is-handed .ensures) refl
 
 pub take-line-spec : {M : Type 1} → statement M
-take-line-spec = tie.close (tie.spec (λ c κs. search needs)
-    (λ c κs. search needs)
-    (λ c κs. search needs)
-    returns
-    (λ c. search needs)
-    (λ c. search needs)
-    (λ c. search needs)
-    (λ c κs. search needs)
-    (λ c κs. search needs)
-    (λ c κs. search needs)
-    (λ c κs. search needs)
-    (λ c. search needs)
-    returns-2)
+take-line-spec = tie.close (tie.spec
+    (λ c κs. search needs) (λ c κs. search needs) (λ c κs. search needs) returns (λ c. search needs) (λ c. search needs) (λ c. search needs)
+    (λ c κs. search needs) (λ c κs. search needs) (λ c κs. search needs) (λ c κs. search needs) (λ c. search needs) returns-2)

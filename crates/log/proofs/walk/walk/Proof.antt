@@ -74,21 +74,6 @@ returns-4 c =
     (walk-ended (now (a .log)) (a .place) (a .allowance) (now (a .words)) (c .before .before .before .before .before .before .if1 .left) (c .before .before .before .before .before .is-place .ensures .0) (c .before .before .before .before .if2 .left) (k .loop .c) (k .loop .words) (k .loop .inv) (c .if4 .taken), refl)
 
 pub walk-spec : {M : Type 1} → statement M
-walk-spec =
-    tie.close
-    (tie.spec
-    Inv-loop
-    μ-loop
-    returns
-    (λ c κs. search needs)
-    returns-2
-    loop-holds
-    (λ c κs. search needs)
-    tally-requires
-    with-group-requires
-    loop-less
-    loop-again
-    same-length
-    returns-3
-    same-length-2
-    returns-4)
+walk-spec = tie.close (tie.spec
+    Inv-loop μ-loop returns (λ c κs. search needs) returns-2 loop-holds (λ c κs. search needs) tally-requires with-group-requires loop-less
+    loop-again same-length returns-3 same-length-2 returns-4)

@@ -55,20 +55,6 @@ returns c =
     ∙ ap (sets (now (a .out)) 20) (take-all 18 (a .t2) (omega arith) ∙ sym (padded-all (a .t2)) ∙ ap (λ (n : ℕ). padded n (a .t2)) many)
 
 pub put-cells-spec : {M : Type 1} → statement M
-put-cells-spec =
-    tie.close
-    (tie.spec
-    Inv-loop
-    μ-loop
-    loop-holds
-    (λ c. search needs)
-    (λ c. search needs)
-    cast-out
-    (λ c. search needs)
-    (λ c. search needs)
-    (λ c. search needs)
-    (λ c. search needs)
-    (λ c. search needs)
-    loop-again
-    same-length
-    returns)
+put-cells-spec = tie.close (tie.spec
+    Inv-loop μ-loop loop-holds (λ c. search needs) (λ c. search needs) cast-out (λ c. search needs) (λ c. search needs) (λ c. search needs)
+    (λ c. search needs) (λ c. search needs) loop-again same-length returns)

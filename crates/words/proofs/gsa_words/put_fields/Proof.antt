@@ -35,15 +35,6 @@ returns c =
     ∙ (λ i. sets (now (a .out)) 3 (a .head .mode ∷ a .head .fix ∷ (c₂ .system-word .ensures) i ∷ d))
 
 pub put-fields-spec : {M : Type 1} → statement M
-put-fields-spec =
-    tie.close
-    (tie.spec
-    (λ c. search needs)
-    (λ c. search needs)
-    (λ c. search needs)
-    slice-write-out-2
-    (λ c κs. search needs)
-    slice-write-out-3
-    put-dops-requires
-    same-length
-    returns)
+put-fields-spec = tie.close (tie.spec
+    (λ c. search needs) (λ c. search needs) (λ c. search needs) slice-write-out-2 (λ c κs. search needs) slice-write-out-3 put-dops-requires
+    same-length returns)

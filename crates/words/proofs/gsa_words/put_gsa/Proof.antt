@@ -54,15 +54,6 @@ returns-2 c =
     (c₄ .put-head .ensures) refl (c₃ .put-fields .ensures) (omega (arith, dops-thirteen d)) refl refl (c₂ .put-cells .ensures) (ap (λ (n : ℕ). 20 + n) (padded-long 18 (a .cells))) (c₁ .put-zeros .ensures))
 
 pub put-gsa-spec : {M : Type 1} → statement M
-put-gsa-spec =
-    tie.close
-    (tie.spec
-    returns
-    (λ c κs. search needs)
-    (λ c κs. search needs)
-    (λ c. search needs)
-    put-cells-requires
-    (λ c. search needs)
-    put-zeros-requires
-    same-length
-    returns-2)
+put-gsa-spec = tie.close (tie.spec
+    returns (λ c κs. search needs) (λ c κs. search needs) (λ c. search needs) put-cells-requires (λ c. search needs) put-zeros-requires
+    same-length returns-2)

@@ -26,17 +26,6 @@ returns c =
     (c₄ .put-entry .ensures) (ap (λ (n : ℕ). 7 + n) (entry-eight p)) (c₃ .put-entry2 .ensures) (ap (λ (n : ℕ). 15 + n) (entry-eight q)) (c₂ .put-entry3 .ensures) (ap (λ (n : ℕ). 23 + n) (entry-eight r)) (c₁ .put-entry4 .ensures)
 
 pub put-entries-spec : {M : Type 1} → statement M
-put-entries-spec =
-    tie.close
-    (tie.spec
-    (λ c κs. search needs)
-    (λ c. search needs)
-    (λ c κs. search needs)
-    (λ c. search needs)
-    (λ c. search needs)
-    (λ c κs. search needs)
-    (λ c. search needs)
-    (λ c. search needs)
-    (λ c κs. search needs)
-    (λ c. search needs)
-    returns)
+put-entries-spec = tie.close (tie.spec
+    (λ c κs. search needs) (λ c. search needs) (λ c κs. search needs) (λ c. search needs) (λ c. search needs) (λ c κs. search needs)
+    (λ c. search needs) (λ c. search needs) (λ c κs. search needs) (λ c. search needs) returns)

@@ -34,21 +34,7 @@ returns-2 c =
     ∙ told (λ (x : Slot). entryWords (slot x)) (now (a .out)) (a .at) (c₅ .s .given .1)
 
 pub put-entry-spec : {M : Type 1} → statement M
-put-entry-spec =
-    tie.close
-    (tie.spec
-    (λ c. search needs)
-    (λ c κs. search needs)
-    (λ c. search needs)
-    (λ c. search needs)
-    (λ c κs. search needs)
-    (λ c. search needs)
-    (λ c κs. search needs)
-    (λ c. search needs)
-    (λ c κs. search needs)
-    (λ c. search needs)
-    (λ c κs. search needs)
-    (λ c. search needs)
-    (λ c. search (as-told (λ (x : Slot). entryWords (slot x))))
-    (λ c. search needs)
-    returns-2)
+put-entry-spec = tie.close (tie.spec
+    (λ c. search needs) (λ c κs. search needs) (λ c. search needs) (λ c. search needs) (λ c κs. search needs) (λ c. search needs)
+    (λ c κs. search needs) (λ c. search needs) (λ c κs. search needs) (λ c. search needs) (λ c κs. search needs) (λ c. search needs)
+    (λ c. search (as-told (λ (x : Slot). entryWords (slot x)))) (λ c. search needs) returns-2)

@@ -63,24 +63,7 @@ returns-2 c =
     ∙ (λ i. sets (now (a .out)) 0 (3 ∷ (padded 2 ((c₆ .letters-of .ensures) i) ++ ((c₃ .system-number .ensures ∙ ap systemNumber (c₄ .gnss-type .ensures)) i ∷ b .count ∷ b .index ∷ b .view ∷ (entriesWords b ++ zeros 1))))))
 
 pub put-gsv-spec : {M : Type 1} → statement M
-put-gsv-spec =
-    tie.close
-    (tie.spec
-    returns
-    (λ c κs. search needs)
-    (λ c κs. search needs)
-    (λ c κs. search needs)
-    (λ c κs. search needs)
-    (λ c. search needs)
-    (λ c. search needs)
-    (λ c. search needs)
-    slice-write-out-2
-    (λ c. search needs)
-    slice-write-out-3
-    (λ c. search needs)
-    slice-write-out-4
-    put-entries-requires
-    (λ c. search needs)
-    put-zeros-requires
-    same-length
-    returns-2)
+put-gsv-spec = tie.close (tie.spec
+    returns (λ c κs. search needs) (λ c κs. search needs) (λ c κs. search needs) (λ c κs. search needs) (λ c. search needs)
+    (λ c. search needs) (λ c. search needs) slice-write-out-2 (λ c. search needs) slice-write-out-3 (λ c. search needs) slice-write-out-4
+    put-entries-requires (λ c. search needs) put-zeros-requires same-length returns-2)

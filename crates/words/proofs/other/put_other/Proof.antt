@@ -34,13 +34,5 @@ returns-2 c =
     (c₃ .put-head .ensures) refl (c₂ .put-type .ensures) refl (c₁ .put-zeros .ensures))
 
 pub put-other-spec : {M : Type 1} → statement M
-put-other-spec =
-    tie.close
-    (tie.spec
-    returns
-    (λ c κs. search needs)
-    (λ c κs. search needs)
-    (λ c. search needs)
-    (λ c κs. search needs)
-    (λ c. search needs)
-    returns-2)
+put-other-spec = tie.close (tie.spec
+    returns (λ c κs. search needs) (λ c κs. search needs) (λ c. search needs) (λ c κs. search needs) (λ c. search needs) returns-2)

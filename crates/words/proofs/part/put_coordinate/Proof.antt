@@ -24,13 +24,6 @@ returns c =
     c₁ .put-four .ensures ∙ (λ i. sets (now (a .out)) (a .at) ((c₄ .sign-of .ensures ∙ ap sign e) i ∷ (c₃ .size-of .ensures ∙ ap natAbs e) i ∷ a .c .letter ∷ (c₂ .bits-f64 .ensures) i ∷ []))
 
 pub put-coordinate-spec : {M : Type 1} → statement M
-put-coordinate-spec =
-    tie.close
-    (tie.spec
-    (λ c κs. search needs)
-    (λ c κs. search needs)
-    (λ c κs. search needs)
-    (λ c. search needs)
-    (λ c κs. search needs)
-    (λ c. search needs)
+put-coordinate-spec = tie.close (tie.spec
+    (λ c κs. search needs) (λ c κs. search needs) (λ c κs. search needs) (λ c. search needs) (λ c κs. search needs) (λ c. search needs)
     returns)

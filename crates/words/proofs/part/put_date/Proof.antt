@@ -8,17 +8,7 @@ use Rattle.words.proofs.part.put_date.Statement.{statement}
 use Rattle.words.proofs.part.put_date.Tie as tie
 
 pub put-date-spec : {M : Type 1} → statement M
-put-date-spec =
-    tie.close
-    (tie.spec
-    (λ c. search needs)
-    (λ c κs. search needs)
-    (λ c. search needs)
-    (λ c. search needs)
-    (λ c. search needs)
-    (λ c. search needs)
-    (λ c κs. search needs)
-    (λ c. search needs)
-    (λ c. search (as-told (λ (x : DateHeld). dateWords (dateHeld x))))
-    (λ c. search needs)
+put-date-spec = tie.close (tie.spec
+    (λ c. search needs) (λ c κs. search needs) (λ c. search needs) (λ c. search needs) (λ c. search needs) (λ c. search needs)
+    (λ c κs. search needs) (λ c. search needs) (λ c. search (as-told (λ (x : DateHeld). dateWords (dateHeld x)))) (λ c. search needs)
     (λ c. search (as-told (λ (x : DateHeld). dateWords (dateHeld x)))))

@@ -32,15 +32,6 @@ returns c =
     c₁ .put-four .ensures ∙ (λ i. sets (now (a .out)) (a .at) ((c₄ .sign-of .ensures ∙ ap sign (wider-is z f)) i ∷ (c₃ .size-of .ensures ∙ ap natAbs (wider-is z f)) i ∷ a .d .decimals ∷ (c₂ .bits-f32 .ensures) i ∷ []))
 
 pub put-dop-spec : {M : Type 1} → statement M
-put-dop-spec =
-    tie.close
-    (tie.spec
-    cast-whole
-    (λ c κs. search needs)
-    (λ c κs. search needs)
-    (λ c κs. search needs)
-    (λ c. search needs)
-    (λ c. search needs)
-    (λ c κs. search needs)
-    (λ c. search needs)
-    returns)
+put-dop-spec = tie.close (tie.spec
+    cast-whole (λ c κs. search needs) (λ c κs. search needs) (λ c κs. search needs) (λ c. search needs) (λ c. search needs)
+    (λ c κs. search needs) (λ c. search needs) returns)

@@ -48,24 +48,7 @@ returns-2 c =
     ∙ told (λ (x : Dops). dopsWords (dopsOf x)) (now (a .out)) (a .at) (c₄ .h .given .1)
 
 pub put-dops-spec : {M : Type 1} → statement M
-put-dops-spec =
-    tie.close
-    (tie.spec
-    (λ c. search needs)
-    (λ c κs. search needs)
-    (λ c. search needs)
-    (λ c. search needs)
-    (λ c. search needs)
-    (λ c. search needs)
-    put-dop-requires
-    (λ c. search needs)
-    (λ c. search needs)
-    put-dop-requires-2
-    (λ c. search needs)
-    (λ c. search needs)
-    (λ c. search needs)
-    put-dop-requires-3
-    (λ c. search needs)
-    (λ c. search (as-told (λ (x : Dops). dopsWords (dopsOf x))))
-    same-length-2
-    returns-2)
+put-dops-spec = tie.close (tie.spec
+    (λ c. search needs) (λ c κs. search needs) (λ c. search needs) (λ c. search needs) (λ c. search needs) (λ c. search needs)
+    put-dop-requires (λ c. search needs) (λ c. search needs) put-dop-requires-2 (λ c. search needs) (λ c. search needs) (λ c. search needs)
+    put-dop-requires-3 (λ c. search needs) (λ c. search (as-told (λ (x : Dops). dopsWords (dopsOf x)))) same-length-2 returns-2)

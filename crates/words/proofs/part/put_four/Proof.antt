@@ -17,11 +17,4 @@ returns c =
     behind (now (a .out)) _ _ (a .a ∷ a .b ∷ []) (a .c ∷ a .d ∷ []) (a .at) (a .at + 2) (c₂ .put-two .ensures) refl (c₁ .put-two2 .ensures)
 
 pub put-four-spec : {M : Type 1} → statement M
-put-four-spec =
-    tie.close
-    (tie.spec
-    (λ c κs. search needs)
-    (λ c. search needs)
-    (λ c κs. search needs)
-    (λ c. search needs)
-    returns)
+put-four-spec = tie.close (tie.spec (λ c κs. search needs) (λ c. search needs) (λ c κs. search needs) (λ c. search needs) returns)

@@ -8,15 +8,7 @@ use Rattle.words.proofs.part.put_option.Statement.{statement}
 use Rattle.words.proofs.part.put_option.Tie as tie
 
 pub put-option-spec : {M : Type 1} → statement M
-put-option-spec =
-    tie.close
-    (tie.spec
-    (λ c. search needs)
-    (λ c κs. search needs)
-    (λ c. search needs)
-    (λ c. search needs)
-    (λ c κs. search needs)
-    (λ c. search needs)
-    (λ c. search (as-told (λ (x : Held). optionWords (held x))))
-    (λ c. search needs)
+put-option-spec = tie.close (tie.spec
+    (λ c. search needs) (λ c κs. search needs) (λ c. search needs) (λ c. search needs) (λ c κs. search needs) (λ c. search needs)
+    (λ c. search (as-told (λ (x : Held). optionWords (held x)))) (λ c. search needs)
     (λ c. search (as-told (λ (x : Held). optionWords (held x)))))

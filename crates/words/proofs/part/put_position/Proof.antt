@@ -49,20 +49,7 @@ returns-2 c =
     ∙ told (λ (x : PositionHeld). positionWords (positionHeld x)) (now (a .out)) (a .at) (c₃ .h .given .1)
 
 pub put-position-spec : {M : Type 1} → statement M
-put-position-spec =
-    tie.close
-    (tie.spec
-    (λ c. search needs)
-    (λ c κs. search needs)
-    (λ c. search needs)
-    (λ c. search needs)
-    (λ c. search needs)
-    (λ c. search needs)
-    put-coordinate-requires
-    (λ c. search needs)
-    (λ c. search needs)
-    put-coordinate-requires-2
-    (λ c. search needs)
-    (λ c. search (as-told (λ (x : PositionHeld). positionWords (positionHeld x))))
-    same-length-2
-    returns-2)
+put-position-spec = tie.close (tie.spec
+    (λ c. search needs) (λ c κs. search needs) (λ c. search needs) (λ c. search needs) (λ c. search needs) (λ c. search needs)
+    put-coordinate-requires (λ c. search needs) (λ c. search needs) put-coordinate-requires-2 (λ c. search needs)
+    (λ c. search (as-told (λ (x : PositionHeld). positionWords (positionHeld x)))) same-length-2 returns-2)

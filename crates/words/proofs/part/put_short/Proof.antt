@@ -38,17 +38,6 @@ returns-2 c =
     ∙ told (λ (x : ShortHeld). shortWords (shortHeld x)) (now (a .out)) (a .at) (c₂ .h .given .1)
 
 pub put-short-spec : {M : Type 1} → statement M
-put-short-spec =
-    tie.close
-    (tie.spec
-    (λ c. search needs)
-    (λ c κs. search needs)
-    (λ c. search needs)
-    (λ c. search needs)
-    (λ c. search needs)
-    (λ c. search needs)
-    put-dop-requires
-    (λ c. search needs)
-    (λ c. search (as-told (λ (x : ShortHeld). shortWords (shortHeld x))))
-    same-length-2
-    returns-2)
+put-short-spec = tie.close (tie.spec
+    (λ c. search needs) (λ c κs. search needs) (λ c. search needs) (λ c. search needs) (λ c. search needs) (λ c. search needs)
+    put-dop-requires (λ c. search needs) (λ c. search (as-told (λ (x : ShortHeld). shortWords (shortHeld x)))) same-length-2 returns-2)

@@ -37,21 +37,7 @@ returns-2 c =
     ∙ told (λ (x : TimeHeld). timeWords (timeHeld x)) (now (a .out)) (a .at) (c₂ .h .given .1)
 
 pub put-time-spec : {M : Type 1} → statement M
-put-time-spec =
-    tie.close
-    (tie.spec
-    (λ c. search needs)
-    (λ c κs. search needs)
-    (λ c. search needs)
-    (λ c. search needs)
-    (λ c. search needs)
-    (λ c. search needs)
-    (λ c. search needs)
-    (λ c. search needs)
-    (λ c. search needs)
-    (λ c. search needs)
-    put-four-requires
-    (λ c. search needs)
-    (λ c. search (as-told (λ (x : TimeHeld). timeWords (timeHeld x))))
-    same-length-2
-    returns-2)
+put-time-spec = tie.close (tie.spec
+    (λ c. search needs) (λ c κs. search needs) (λ c. search needs) (λ c. search needs) (λ c. search needs) (λ c. search needs)
+    (λ c. search needs) (λ c. search needs) (λ c. search needs) (λ c. search needs) put-four-requires (λ c. search needs)
+    (λ c. search (as-told (λ (x : TimeHeld). timeWords (timeHeld x)))) same-length-2 returns-2)

@@ -19,13 +19,5 @@ returns c =
     behind (now (a .out)) (set (now (a .out)) (a .at) (a .a)) _ (a .a ∷ []) (a .b ∷ []) (a .at) (a .at + 1) refl refl refl
 
 pub put-two-spec : {M : Type 1} → statement M
-put-two-spec =
-    tie.close
-    (tie.spec
-    (λ c. search needs)
-    (λ c. search needs)
-    (λ c. search needs)
-    (λ c. search needs)
-    slice-write-out-2
-    (λ c. search needs)
-    returns)
+put-two-spec = tie.close (tie.spec
+    (λ c. search needs) (λ c. search needs) (λ c. search needs) (λ c. search needs) slice-write-out-2 (λ c. search needs) returns)

@@ -17,15 +17,6 @@ returns c =
     behind (now (a .out)) _ _ (k .0 ∷ k .1 ∷ []) (k .2 ∷ []) (a .at) (a .at + 2) (c₁ .put-two .ensures) refl refl
 
 pub put-type-spec : {M : Type 1} → statement M
-put-type-spec =
-    tie.close
-    (tie.spec
-    (λ c. search needs)
-    (λ c. search needs)
-    (λ c κs. search needs)
-    (λ c. search needs)
-    (λ c. search needs)
-    (λ c. search needs)
-    (λ c. search needs)
-    (λ c. search needs)
-    returns)
+put-type-spec = tie.close (tie.spec
+    (λ c. search needs) (λ c. search needs) (λ c κs. search needs) (λ c. search needs) (λ c. search needs) (λ c. search needs)
+    (λ c. search needs) (λ c. search needs) returns)

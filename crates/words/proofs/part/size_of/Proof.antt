@@ -23,5 +23,4 @@ returns : tie.Need-returns
 returns c = size-is (c .before .args .z) (c .before .fits .z) (c .if1 .taken)
 
 pub size-of-spec : {M : Type 1} → statement M
-size-of-spec =
-    tie.close (tie.spec add-m sub-m cast-result add-result cast-result-2 returns (λ c. search needs))
+size-of-spec = tie.close (tie.spec add-m sub-m cast-result add-result cast-result-2 returns (λ c. search needs))

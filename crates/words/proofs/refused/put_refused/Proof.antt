@@ -41,14 +41,5 @@ returns-2 c =
     ∙ (λ i. sets (now (a .out)) 0 (5 ∷ (c₂ .number .ensures) i ∷ w)))
 
 pub put-refused-spec : {M : Type 1} → statement M
-put-refused-spec =
-    tie.close
-    (tie.spec
-    returns
-    (λ c. search needs)
-    (λ c κs. search needs)
-    (λ c. search needs)
-    slice-write-out-2
-    put-carried-requires
-    same-length
-    returns-2)
+put-refused-spec = tie.close (tie.spec
+    returns (λ c. search needs) (λ c κs. search needs) (λ c. search needs) slice-write-out-2 put-carried-requires same-length returns-2)

@@ -41,14 +41,6 @@ returns c =
     refl refl (c₃ .put-type .ensures) refl (c₂ .put-type2 .ensures) refl (c₁ .put-zeros .ensures)
 
 pub put-types-spec : {M : Type 1} → statement M
-put-types-spec =
-    tie.close
-    (tie.spec
-    (λ c. search needs)
-    put-type-requires
-    (λ c. search needs)
-    put-type-requires-2
-    (λ c. search needs)
-    put-zeros-requires
-    same-length
+put-types-spec = tie.close (tie.spec
+    (λ c. search needs) put-type-requires (λ c. search needs) put-type-requires-2 (λ c. search needs) put-zeros-requires same-length
     returns)

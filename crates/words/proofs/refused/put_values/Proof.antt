@@ -35,12 +35,4 @@ returns c =
     refl refl (c₂ .put-two .ensures) refl (c₁ .put-zeros .ensures)
 
 pub put-values-spec : {M : Type 1} → statement M
-put-values-spec =
-    tie.close
-    (tie.spec
-    (λ c. search needs)
-    put-two-requires
-    (λ c. search needs)
-    put-zeros-requires
-    same-length
-    returns)
+put-values-spec = tie.close (tie.spec (λ c. search needs) put-two-requires (λ c. search needs) put-zeros-requires same-length returns)

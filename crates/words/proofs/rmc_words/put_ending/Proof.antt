@@ -33,13 +33,5 @@ returns c =
     ∙ (λ i. sets (now (a .out)) 32 (shortWords v ++ ((c₁ .letter-word .ensures) i ∷ (c .letter-word2 .ensures) i ∷ [])))
 
 pub put-ending-spec : {M : Type 1} → statement M
-put-ending-spec =
-    tie.close
-    (tie.spec
-    (λ c κs. search needs)
-    (λ c κs. search needs)
-    (λ c. search needs)
-    (λ c κs. search needs)
-    slice-write-out-2
-    same-length
-    returns)
+put-ending-spec = tie.close (tie.spec
+    (λ c κs. search needs) (λ c κs. search needs) (λ c. search needs) (λ c κs. search needs) slice-write-out-2 same-length returns)

@@ -31,12 +31,4 @@ returns c =
     (c₂ .put-time .ensures) (ap (λ (n : ℕ). 3 + n) (time-five t)) refl refl (c₁ .put-position .ensures)
 
 pub put-fix-spec : {M : Type 1} → statement M
-put-fix-spec =
-    tie.close
-    (tie.spec
-    (λ c κs. search needs)
-    (λ c. search needs)
-    (λ c. search needs)
-    put-position-requires
-    same-length
-    returns)
+put-fix-spec = tie.close (tie.spec (λ c κs. search needs) (λ c. search needs) (λ c. search needs) put-position-requires same-length returns)

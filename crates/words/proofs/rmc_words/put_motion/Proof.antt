@@ -24,11 +24,4 @@ returns c =
     (c₃ .put-short .ensures) (ap (λ (n : ℕ). 18 + n) (short-five s)) (c₂ .put-short2 .ensures) (ap (λ (n : ℕ). 23 + n) (short-five t)) (c₁ .put-date .ensures)
 
 pub put-motion-spec : {M : Type 1} → statement M
-put-motion-spec =
-    tie.close
-    (tie.spec
-    (λ c κs. search needs)
-    (λ c κs. search needs)
-    (λ c κs. search needs)
-    (λ c. search needs)
-    returns)
+put-motion-spec = tie.close (tie.spec (λ c κs. search needs) (λ c κs. search needs) (λ c κs. search needs) (λ c. search needs) returns)

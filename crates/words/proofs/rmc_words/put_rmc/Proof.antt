@@ -38,15 +38,6 @@ returns-2 c =
     (c₅ .put-head .ensures) refl (c₄ .put-fix .ensures) (ap (λ (n : ℕ). 3 + n) (fix-fifteen f)) (c₃ .put-motion .ensures) (ap (λ (n : ℕ). 18 + n) (motion-fourteen m)) (c₂ .put-ending .ensures) (ap (λ (n : ℕ). 32 + n) (ending-seven e)) (c₁ .put-zeros .ensures))
 
 pub put-rmc-spec : {M : Type 1} → statement M
-put-rmc-spec =
-    tie.close
-    (tie.spec
-    returns
-    (λ c κs. search needs)
-    (λ c κs. search needs)
-    (λ c κs. search needs)
-    (λ c κs. search needs)
-    (λ c. search needs)
-    (λ c κs. search needs)
-    (λ c. search needs)
-    returns-2)
+put-rmc-spec = tie.close (tie.spec
+    returns (λ c κs. search needs) (λ c κs. search needs) (λ c κs. search needs) (λ c κs. search needs) (λ c. search needs)
+    (λ c κs. search needs) (λ c. search needs) returns-2)

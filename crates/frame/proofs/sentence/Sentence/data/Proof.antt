@@ -17,17 +17,6 @@ returns-3 : tie.Need-returns-3
 returns-3 c = let a = c .before .before .before .args in (sym (within (now (a .s)) (a .self .from) (a .self .to) (omega arith) (omega arith)), refl)
 
 pub data-spec : {M : Type 1} → statement M
-data-spec =
-    tie.close
-    (tie.spec
-    (λ c. search needs)
-    (λ c. search needs)
-    (λ c. search needs)
-    returns
-    (λ c. search needs)
-    (λ c. search needs)
-    (λ c. search needs)
-    returns-2
-    (λ c. search needs)
-    (λ c. search needs)
-    returns-3)
+data-spec = tie.close (tie.spec
+    (λ c. search needs) (λ c. search needs) (λ c. search needs) returns (λ c. search needs) (λ c. search needs) (λ c. search needs)
+    returns-2 (λ c. search needs) (λ c. search needs) returns-3)

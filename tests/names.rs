@@ -198,6 +198,76 @@ fn what_reading_names_is_defined_where_it_says() {
     assert!(wrong.is_empty(), "\n{}\n", wrong.join("\n"));
 }
 
+/// The definitions of a file of specs/: what is declared `pub` there, but for
+/// fields of records and constructors.
+fn definitions(source: &str) -> Vec<&str> {
+    source
+        .lines()
+        .filter_map(|line| {
+            let line = line.trim_start();
+            let rest = ["abbrev pub ", "unfoldable pub ", "pub record ", "pub data "]
+                .iter()
+                .find_map(|declares| line.strip_prefix(declares))?;
+            rest.split([' ', ':', '(', '{']).next()
+        })
+        .collect()
+}
+
+#[test]
+fn reading_names_every_definition() {
+    let document = read("docs/READING.md");
+    let named: BTreeSet<&str> = quoted(&document).into_iter().collect();
+    let (mut wrong, mut found) = (vec![], 0);
+    for path in files(&root().join("crates")) {
+        let is_definition = path
+            .parent()
+            .is_some_and(|folder| folder.ends_with("specs"));
+        if !is_definition {
+            continue;
+        }
+        let source = fs::read_to_string(&path).expect("a file of definitions");
+        for name in definitions(&source) {
+            found += 1;
+            if !named.contains(name) {
+                wrong.push(format!("{}: {name}", path.display()));
+            }
+        }
+    }
+    assert!(found > 300, "{found} definitions");
+    assert!(
+        wrong.is_empty(),
+        "docs/READING.md does not name\n{}\n",
+        wrong.join("\n")
+    );
+}
+
+#[test]
+fn a_row_of_a_file_names_what_that_file_defines() {
+    let document = read("docs/READING.md");
+    let (mut wrong, mut found) = (vec![], 0);
+    for (at, cells) in rows(&document) {
+        let [file] = quoted(cells[0])[..] else {
+            continue;
+        };
+        let Some((of, name)) = file.split_once('/') else {
+            continue;
+        };
+        // others speak of the Rust that is ported
+        let path = format!("crates/{of}/specs/{name}.antt");
+        let Ok(source) = fs::read_to_string(root().join(path)) else {
+            continue;
+        };
+        for name in names(cells[1]) {
+            found += 1;
+            if !definitions(&source).contains(&name) {
+                wrong.push(format!("docs/READING.md:{at}: `{name}` is not in {file}"));
+            }
+        }
+    }
+    assert!(found > 100, "{found} names");
+    assert!(wrong.is_empty(), "\n{}\n", wrong.join("\n"));
+}
+
 #[test]
 fn what_trust_names_is_defined_where_it_says() {
     let document = read("docs/TRUST.md");

@@ -27,25 +27,29 @@ int main(void)
     got += fresh(table, NMEA_TABLE);
     got += gather(line, sizeof line, words, NMEA_WORDS, table, NMEA_TABLE);
     got += row(table, NMEA_TABLE, 0, row_words, NMEA_ROW_WORDS);
-    got += table[NMEA_ROW - NMEA_CELLS] == NMEA_ABSENT;
+    got += table[NMEA_ROW + NMEA_RUN_CELLS + NMEA_CELL_SIGNAL] == NMEA_ABSENT;
 
     switch (nmea_gather(line, sizeof line, words, NMEA_WORDS, table, NMEA_TABLE)) {
-    case NMEA_NOT_TAKEN:
     case NMEA_NO_GSV:
     case NMEA_NO_RUN:
     case NMEA_WAITS:
+    case NMEA_UNDONE:
         break;
     case NMEA_GROUP:
         got++;
     }
-    switch (words[0]) {
+    switch (words[NMEA_KIND]) {
     case NMEA_RMC:
+        return words[NMEA_RMC_TIME] && words[NMEA_RMC_TIME + NMEA_TIME_HOUR] > 23;
     case NMEA_GSA:
+        return words[NMEA_GSA_DOPS] && words[NMEA_GSA_PDOP + NMEA_DOP_DECIMALS] > 6;
     case NMEA_GSV:
+        return words[NMEA_GSV_SYSTEM] == NMEA_GPS;
     case NMEA_OTHER:
+        return words[NMEA_OTHER_TYPE] == words[NMEA_TALKER];
     case NMEA_REFUSED:
-        return got == NMEA_SHORT;
+        return words[NMEA_REFUSED_NUMBER] == got;
     default:
-        return 1;
+        return totals[NMEA_TOTALS_LINES] == row_words[NMEA_ROW_COUNT];
     }
 }

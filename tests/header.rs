@@ -69,74 +69,223 @@ fn defined() -> BTreeMap<String, u64> {
         .collect()
 }
 
-const PAGE: &str = "docs/ABI.md";
-const ANSWERS: &str = "crates/capi/src/lib.rt";
-const TOTALS: &str = "crates/capi/src/totals.rt";
-const LEND: &str = "crates/capi/src/lend.rt";
-const GATHERED: &str = "crates/capi/specs/Lend.antt";
-const TABLE: &str = "crates/gather/src/table.rt";
+const GSV: &str = "crates/words/src/gsv_words.rt";
 const ROW: &str = "crates/gather/src/lent.rt";
 
-/// Each constant, its number, and where that stands too: on the page, and in
-/// the code, or in the definition where the code has no name for it.
-const HELD: [(&str, u64, &str, &str); 27] = [
+/// Constants that the code has too: the source, how their names in the header
+/// begin, and the rest of each, with the code's own name behind `=` where that
+/// is another.
+const IN_CODE: [(&str, &str, &str); 16] = [
+    ("crates/capi/src/lib.rt", "NMEA_", "DONE UNDONE"),
+    ("crates/words/src/lib.rt", "NMEA_", "WORDS"),
     (
-        "NMEA_WORDS",
-        40,
-        PAGE,
-        "the whole answer to a line in {} words",
+        "crates/words/src/part.rt",
+        "NMEA_",
+        "KIND TALKER RMC GSA GSV OTHER REFUSED",
     ),
-    ("NMEA_WORDS", 40, ANSWERS, "const WORDS: usize = {};"),
-    ("NMEA_RMC", 1, PAGE, "| {} | RMC |"),
-    ("NMEA_GSA", 2, PAGE, "| {} | GSA |"),
-    ("NMEA_GSV", 3, PAGE, "| {} | GSV |"),
     (
-        "NMEA_OTHER",
-        4,
-        PAGE,
-        "| {} | a known type that we do not read |",
+        "crates/words/src/rmc_words.rt",
+        "NMEA_RMC_",
+        "TIME STATUS POSITION SPEED COURSE DATE VARIATION MODE NAVIGATION",
     ),
-    ("NMEA_REFUSED", 5, PAGE, "| {} | a refusal |"),
-    ("NMEA_TOTALS", 5, PAGE, "the totals of a whole log in {};"),
-    ("NMEA_TOTALS", 5, TOTALS, "const TOTALS: usize = {};"),
-    ("NMEA_SHORT", 255, TOTALS, "const SHORT: u32 = {};"),
-    ("NMEA_TABLE", 888, PAGE, "A table has {} words of 32 bits"),
-    ("NMEA_TABLE", 888, TABLE, "const WORDS: usize = {};"),
-    ("NMEA_ROWS", 6, PAGE, ": {} rows, one behind the other"),
-    ("NMEA_ROWS", 6, TABLE, "const ROWS: usize = {};"),
-    ("NMEA_ROW", 148, PAGE, "of {} words each"),
-    ("NMEA_ROW", 148, ROW, "const ROW: usize = {};"),
-    ("NMEA_CELLS", 36, PAGE, "| {} cells of four words"),
-    ("NMEA_CELLS", 36, ROW, "const CELLS: usize = {};"),
     (
-        "NMEA_ABSENT",
-        4_294_967_295,
-        PAGE,
-        "; {} if one of the last three is absent",
+        "crates/words/src/gsa_words.rt",
+        "NMEA_GSA_",
+        "MODE FIX SYSTEM DOPS COUNT SATELLITES",
     ),
-    ("NMEA_ABSENT", 4_294_967_295, ROW, "const ABSENT: u32 = {};"),
+    (GSV, "NMEA_GSV_", "SYSTEM SENTENCES NUMBER VIEW ENTRIES"),
     (
-        "NMEA_NOT_TAKEN",
-        0,
-        GATHERED,
-        "(gathers t (gsvIn (answer line)))) {}\n",
+        GSV,
+        "NMEA_ENTRY_",
+        "WORDS=ENTRY_WORDS SATELLITE ELEVATION AZIMUTH SIGNAL",
     ),
-    ("NMEA_NO_GSV", 1, GATHERED, "\nlineCode none a = {}\n"),
-    ("NMEA_NO_RUN", 2, GATHERED, "\ncode Nothing κ = {}\n"),
-    ("NMEA_WAITS", 3, GATHERED, "\ncode Waiting κ = {}\n"),
-    ("NMEA_GROUP", 4, GATHERED, "\ncode Complete κ = {} + κ\n"),
-    ("NMEA_ROW_WORDS", 293, PAGE, "which reads a row in {} words"),
-    ("NMEA_ROW_WORDS", 293, LEND, "const ROW_WORDS: usize = {};"),
+    ("crates/words/src/other.rt", "NMEA_OTHER_", "TYPE"),
+    (
+        "crates/words/src/refused.rt",
+        "NMEA_REFUSED_",
+        "NUMBER COUNT VALUES",
+    ),
+    ("crates/capi/src/totals.rt", "NMEA_", "TOTALS"),
+    (
+        "crates/capi/src/totals.rt",
+        "NMEA_TOTALS_",
+        "LINES BLANK ACCEPTED REFUSED GROUPS",
+    ),
+    ("crates/gather/src/table.rt", "NMEA_", "TABLE=WORDS ROWS"),
+    (ROW, "NMEA_", "ROW CELLS CELL_WORDS=CELL ENTRIES ABSENT"),
+    (
+        ROW,
+        "NMEA_RUN_",
+        "SENTENCES=N WAITS_FOR=NEXT VIEW COUNT CELLS=HEAD",
+    ),
+    (
+        "crates/capi/src/lend.rt",
+        "NMEA_",
+        "NO_GSV NO_RUN WAITS GROUP ROW_WORDS",
+    ),
+    (
+        "crates/capi/src/lend.rt",
+        "NMEA_ROW_",
+        "SYSTEM SENTENCES WAITS_FOR VIEW COUNT ENTRIES",
+    ),
 ];
 
+const PARTS: &str = "crates/words/specs/Part.antt";
+
+/// Places that the code has no name for: a definition, in which the words of a
+/// part stand in their order; how their names in the header begin; the place
+/// that they are counted from, if that has a name; and the rest of each name,
+/// `-` for a word without one.
+const IN_DEFINITIONS: [(&str, &str, &str, &str, &str); 9] = [
+    (
+        PARTS,
+        "timeWords (some t) = 1 ∷ t .hour ∷ t .minute ∷ t .second ∷ t .nanosecond ∷ []",
+        "NMEA_TIME_",
+        "",
+        "- HOUR MINUTE SECOND NANOSECOND",
+    ),
+    (
+        PARTS,
+        "dateWords (some d) = 1 ∷ d .year ∷ d .month ∷ d .day ∷ []",
+        "NMEA_DATE_",
+        "",
+        "- YEAR MONTH DAY",
+    ),
+    (
+        PARTS,
+        "coordinateWords p = signedWords (p .count) ++ (p .letter ∷ bits64 (p .degrees) ∷ [])",
+        "NMEA_COORDINATE_",
+        "",
+        "SIGN SIZE LETTER DEGREES",
+    ),
+    (
+        PARTS,
+        "positionWords (some p) = 1 ∷ (coordinateWords (p .lat) ++ coordinateWords (p .lon))",
+        "NMEA_RMC_",
+        "POSITION",
+        "- LATITUDE - - - LONGITUDE - - -",
+    ),
+    (
+        PARTS,
+        "dopWords d = signedWords (d .whole) ++ (d .decimals ∷ bits32 (d .value) ∷ [])",
+        "NMEA_DOP_",
+        "",
+        "SIGN SIZE DECIMALS VALUE",
+    ),
+    (
+        PARTS,
+        "shortWords (some d) = 1 ∷ dopWords d",
+        "NMEA_DECIMAL_",
+        "",
+        "- SIGN SIZE DECIMALS VALUE",
+    ),
+    (
+        PARTS,
+        "dopsWords (some d) = 1 ∷ (dopWords (d .pdop) ++ (dopWords (d .hdop) ++ dopWords (d .vdop)))",
+        "NMEA_GSA_",
+        "DOPS",
+        "- PDOP - - - HDOP - - - VDOP - - -",
+    ),
+    (
+        PARTS,
+        "optionWords (some n) = 1 ∷ n ∷ []",
+        "NMEA_OPTION_",
+        "",
+        "- NUMBER",
+    ),
+    (
+        "crates/gather/specs/Words.antt",
+        "cellWords s = s .id ∷ wordOf (s .elevation) ∷ wordOf (s .azimuth) ∷ wordOf (s .signal) ∷ []",
+        "NMEA_CELL_",
+        "",
+        "SATELLITE ELEVATION AZIMUTH SIGNAL",
+    ),
+];
+
+/// A constant of a source: a number, or a sum of products of constants.
+fn constant(file: &str, name: &str) -> u64 {
+    let (start, source) = (format!("const {name}: "), read(file));
+    let value = source
+        .lines()
+        .find_map(|line| Some(line.split_once(&start)?.1.split_once(" = ")?.1))
+        .unwrap_or_else(|| panic!("{file}: no constant {name}"));
+    let factor = |factor: &str| match (factor.parse(), factor.strip_prefix("lent::")) {
+        (Ok(number), _) => number,
+        (_, Some(name)) => constant(ROW, name),
+        (_, None) if factor == "ENTRY_WORDS" && file != GSV => constant(GSV, factor),
+        (_, None) => constant(file, factor),
+    };
+    let summands = value.trim_end_matches(';').split(" + ");
+    summands
+        .map(|summand| summand.split(" * ").map(factor).product::<u64>())
+        .sum()
+}
+
+/// The systems' numbers, by their names in the header.
+fn systems() -> Vec<(String, u64)> {
+    let definitions = read("crates/gsv/specs/Talker.antt");
+    let numbers = definitions
+        .lines()
+        .filter_map(|line| line.strip_prefix("systemNumber ")?.split_once(" = "));
+    numbers
+        .map(|(system, number)| {
+            let name = format!("NMEA_{}", system.to_uppercase());
+            (name, number.parse().expect("a number"))
+        })
+        .collect()
+}
+
+/// Each constant of the header is the code's, or the definition's where the
+/// code has no name for it, and none is left out.
 #[test]
 fn every_constant_is_held() {
-    for (name, number, file, said) in HELD {
-        let said = said.replace("{}", &number.to_string());
-        assert!(read(file).contains(&said), "{name}, {file}: {said}");
+    let mut held = BTreeMap::from_iter(systems());
+    for (file, start, names) in IN_CODE {
+        for name in names.split(' ') {
+            let (name, code) = name.split_once('=').unwrap_or((name, name));
+            held.insert(format!("{start}{name}"), constant(file, code));
+        }
     }
-    let held = HELD.map(|(name, number, ..)| (name.to_owned(), number));
-    assert_eq!(defined(), BTreeMap::from(held), "include/nmea.h");
+    for (file, definition, start, from, names) in IN_DEFINITIONS {
+        let is_there = read(file).lines().any(|line| line == definition);
+        assert!(is_there, "{file}: expected {definition}");
+        let from = held.get(&format!("{start}{from}")).copied().unwrap_or(0);
+        for (place, name) in (from..).zip(names.split(' ')) {
+            if name != "-" {
+                held.insert(format!("{start}{name}"), place);
+            }
+        }
+    }
+    assert_eq!(defined(), held, "include/nmea.h");
+}
+
+/// What calls answer: the header alone says it.
+const ANSWERS: [&str; 6] = [
+    "NMEA_DONE",
+    "NMEA_UNDONE",
+    "NMEA_NO_GSV",
+    "NMEA_NO_RUN",
+    "NMEA_WAITS",
+    "NMEA_GROUP",
+];
+
+/// Each other constant stands on a page once, in a table behind its number.
+#[test]
+fn every_constant_is_on_a_page() {
+    let pages = [read("docs/ABI.md"), read("docs/LISTS.md")].concat();
+    let mut told = vec![];
+    for row in pages.lines().filter(|line| line.contains("| `NMEA_")) {
+        let mut cells = row.split('|').map(str::trim).skip(1);
+        let (number, name) = (cells.next(), cells.next());
+        let first = number.and_then(|number| number.split([' ', ',']).next());
+        let number = first.and_then(|number| number.parse::<u64>().ok());
+        let name = name.map(|name| name.trim_matches('`').to_owned());
+        told.push(name.zip(number).unwrap_or_else(|| panic!("{row}")));
+    }
+    told.sort();
+    let mut places = defined();
+    places.retain(|name, _| !ANSWERS.contains(&name.as_str()));
+    assert_eq!(told, Vec::from_iter(places), "docs/ABI.md, docs/LISTS.md");
 }
 
 #[test]

@@ -15,13 +15,13 @@
 
 #include "nmea.h"
 
-/* The words of nmea_row. */
-enum { SYSTEM, SENTENCES, WAITS_FOR, IN_VIEW, COUNT, SATELLITES };
+static const char *const names[] = {
+    [NMEA_GPS] = "GPS",       [NMEA_GLONASS] = "GLONASS", [NMEA_GALILEO] = "Galileo",
+    [NMEA_BEIDOU] = "BeiDou", [NMEA_QZSS] = "QZSS",       [NMEA_NAVIC] = "NavIC",
+};
 
-/* The words of a satellite, and in them the first of its three numbers that may be absent. */
-enum { SATELLITE_WORDS = 8, NUMBERS = 2 };
-
-static const char *const names[] = { "GPS", "GLONASS", "Galileo", "BeiDou", "NavIC", "QZSS" };
+/* What of an entry may be absent. */
+static const size_t numbers[] = { NMEA_ENTRY_ELEVATION, NMEA_ENTRY_AZIMUTH, NMEA_ENTRY_SIGNAL };
 
 struct log {
     unsigned long long lines;
@@ -42,13 +42,15 @@ static int stretch(uint8_t **line, size_t *room)
 
 static void print_group(unsigned long long line, const uint64_t *row)
 {
-    printf("%llu %s %llu %llu", line, names[row[SYSTEM] - 1], (unsigned long long)row[SENTENCES], (unsigned long long)row[IN_VIEW]);
-    for (uint64_t i = 0; i < row[COUNT]; i++) {
-        const uint64_t *satellite = row + SATELLITES + SATELLITE_WORDS * i;
-        printf(" %llu", (unsigned long long)satellite[1]);
-        for (int k = NUMBERS; k < SATELLITE_WORDS; k += 2) {
-            if (satellite[k])
-                printf("/%llu", (unsigned long long)satellite[k + 1]);
+    printf("%llu %s %llu %llu", line, names[row[NMEA_ROW_SYSTEM]], (unsigned long long)row[NMEA_ROW_SENTENCES],
+           (unsigned long long)row[NMEA_ROW_VIEW]);
+    for (uint64_t i = 0; i < row[NMEA_ROW_COUNT]; i++) {
+        const uint64_t *entry = row + NMEA_ROW_ENTRIES + NMEA_ENTRY_WORDS * i;
+        printf(" %llu", (unsigned long long)entry[NMEA_ENTRY_SATELLITE]);
+        for (size_t k = 0; k < sizeof numbers / sizeof *numbers; k++) {
+            const uint64_t *number = entry + numbers[k];
+            if (*number)
+                printf("/%llu", (unsigned long long)number[NMEA_OPTION_NUMBER]);
             else
                 printf("/-");
         }
@@ -66,7 +68,8 @@ static void take(struct log *log, const uint8_t *line, size_t length)
     if (length > 0 && line[length - 1] == '\r')
         length--;
     uint32_t did = nmea_gather(line, length, words, NMEA_WORDS, log->table, NMEA_TABLE);
-    if (did >= NMEA_GROUP && nmea_row(log->table, NMEA_TABLE, did - NMEA_GROUP, row, NMEA_ROW_WORDS))
+    /* NMEA_UNDONE, which is above NMEA_GROUP too, does not come: words and table have their lengths */
+    if (did >= NMEA_GROUP && nmea_row(log->table, NMEA_TABLE, did - NMEA_GROUP, row, NMEA_ROW_WORDS) == NMEA_DONE)
         print_group(log->lines, row);
 }
 

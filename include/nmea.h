@@ -177,7 +177,7 @@ uint32_t nmea_fresh(uint32_t *table, size_t table_words);
  * NMEA_WAITS: an accepted GSV line; its run waits for the next.
  * NMEA_GROUP and the number of a row above it: an accepted GSV line that completed the run of that row. The row has the group, until
  * its system's next accepted GSV line.
- * NMEA_UNDONE: the buffer has fewer than 40 words, or the table not 888; neither is written.
+ * NMEA_UNDONE, which is above all of these: the buffer has fewer than 40 words, or the table not 888; neither is written.
  * No other row changes. A table may hold any words: a row that no accepted lines could have left counts as one without a run, and stands
  * as it is until its system's next accepted GSV line. */
 uint32_t nmea_gather(const uint8_t *line, size_t length, uint64_t *words, size_t count, uint32_t *table, size_t table_words);

@@ -91,8 +91,8 @@ pub enum System {
     Glonass,
     Galileo,
     Beidou,
-    NavIc,
     Qzss,
+    NavIc,
 }
 
 impl System {
@@ -102,11 +102,11 @@ impl System {
         System::Glonass,
         System::Galileo,
         System::Beidou,
-        System::NavIc,
         System::Qzss,
+        System::NavIc,
     ];
 
-    /// The system's number in docs/ABI.md.
+    /// The system's number in docs/LISTS.md.
     pub fn number(self) -> u8 {
         1 + self as u8
     }

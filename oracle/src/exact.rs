@@ -51,21 +51,22 @@ impl Exact {
     /// What an accepted line's own text says of the exact parts, where the
     /// answer says which parts are there. None if the text has no such parts.
     pub(crate) fn expected(line: &[u8], answer: &Answer) -> Option<Self> {
-        match answer {
-            Answer::Rmc(record) => Exact::of_rmc(&Fields::of(line)?, record),
-            Answer::Gsa(_) => Some(Exact {
-                talker: Some([line[1], line[2]]),
+        let exact = match answer {
+            Answer::Rmc(record) => Exact::of_rmc(&Fields::of(line)?, record)?,
+            Answer::Gsa(_) => Exact {
                 decimals: Fields::of(line)?
                     .short_decimals()
                     .map(|text| Decimal::expected(text, false)),
                 ..Exact::default()
-            }),
-            Answer::Gsv(record) => Some(Exact {
-                talker: Some([line[1], line[2]]),
-                ..Exact::of_gsv(&Fields::of(line)?, record)?
-            }),
-            Answer::Other(_) | Answer::Refused(_) => Some(Exact::default()),
-        }
+            },
+            Answer::Gsv(record) => Exact::of_gsv(&Fields::of(line)?, record)?,
+            Answer::Other(_) => Exact::default(),
+            Answer::Refused(_) => return Some(Exact::default()),
+        };
+        Some(Exact {
+            talker: Some([line[1], line[2]]),
+            ..exact
+        })
     }
 
     fn of_rmc(fields: &Fields, record: &Rmc) -> Option<Self> {

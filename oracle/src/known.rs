@@ -1,8 +1,20 @@
+use crate::System;
+
 /// The thirty types that document 01 knows.
 pub const KNOWN_TYPES: [&str; 30] = [
     "AAM", "ALM", "APA", "BOD", "BWC", "BWW", "DBK", "DBS", "DPT", "GBS", "GGA", "GLL", "GNS",
     "GSA", "GST", "GSV", "HDT", "MDA", "MTW", "MWV", "RMC", "RMZ", "TTM", "TXT", "VHW", "VTG",
     "WNC", "ZDA", "ZFO", "ZTG",
+];
+
+/// The talkers of GSV, by the numbers of their systems; those of some count together.
+pub(crate) const TALKERS: [&[&str]; System::ALL.len()] = [
+    &["GP"],
+    &["GL"],
+    &["GA"],
+    &["BD", "GB"],
+    &["GQ", "PQ", "QZ"],
+    &["GI"],
 ];
 
 /// The longest line that is framed.

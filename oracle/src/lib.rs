@@ -60,9 +60,10 @@ pub use report::{Difference, PartReport, Report, Tally};
 pub use rmc::{Date, Rmc, Time};
 pub use table::{row_of, row_read, Cell, Gathered, Row, Table};
 pub use table::{ABSENT, CELLS, ROW, ROWS, ROW_WORDS, TABLE};
+pub use table::{GROUP, NO_GSV, NO_RUN, WAITS};
 #[cfg(target_arch = "x86_64")]
 pub use tables::{compare_tables, Did, Gather, TablesReport};
 #[cfg(target_arch = "x86_64")]
 pub use totals::linked_totals;
 pub use totals::{totals_of, totals_of_file, Printed};
-pub use words::{answer_of, words_of, OursAnswer, Words};
+pub use words::{answer_of, words_of, OursAnswer, Words, DONE, UNDONE};

@@ -61,7 +61,7 @@ pub fn linked(line: &[u8]) -> Words {
     // A word that is left as it was is found, as no answer has one like it.
     let mut words = Box::new([u64::MAX; WORDS]);
     let wrote = proved_nmea::abi::answer(&line, words.as_mut_slice());
-    assert_eq!(wrote, 1, "40 words are enough for every answer");
+    assert_eq!(wrote, crate::DONE, "40 words are enough for every answer");
     *words
 }
 

@@ -1,6 +1,6 @@
 //! A table of runs: its words, and those of a row that is read, by docs/ABI.md.
 
-use crate::{words::Reader, System, WholeEntry};
+use crate::{words::Reader, System, WholeEntry, UNDONE};
 
 /// A row for each system.
 pub const ROWS: usize = System::ALL.len();
@@ -157,6 +157,13 @@ fn number(reader: &mut Reader) -> Result<u32, String> {
     }
 }
 
+/// What `nmea_gather` answers to a line that it takes; a row that is a group
+/// is answered by its number above the last.
+pub const NO_GSV: u32 = 0;
+pub const NO_RUN: u32 = 1;
+pub const WAITS: u32 = 2;
+pub const GROUP: u32 = 3;
+
 /// What a line did to a table.
 #[derive(Clone, Copy, Debug, PartialEq, Eq)]
 pub enum Gathered {
@@ -174,12 +181,12 @@ impl Gathered {
     /// By the number that `nmea_gather` answers, if the line was taken.
     pub fn of(number: u32) -> Option<Self> {
         match number {
-            0 => None,
-            1 => Some(Gathered::NoGsv),
-            2 => Some(Gathered::NoRun),
-            3 => Some(Gathered::Waits),
+            NO_GSV => Some(Gathered::NoGsv),
+            NO_RUN => Some(Gathered::NoRun),
+            WAITS => Some(Gathered::Waits),
+            UNDONE => None,
             _ => {
-                let row = usize::try_from(number - 4).ok()?;
+                let row = usize::try_from(number - GROUP).ok()?;
                 System::ALL.get(row).copied().map(Gathered::Group)
             }
         }

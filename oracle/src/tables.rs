@@ -4,7 +4,8 @@ use std::{collections::BTreeMap, fmt};
 
 use crate::{
     known::LONGEST, lines::TableGenerator, linked_row, plain_gather, row_of, row_read,
-    words::WORDS, Gathered, Lent, Row, System, Table, Why, Words, ROWS, ROW_WORDS, TABLE,
+    words::WORDS, Gathered, Lent, Row, System, Table, Why, Words, DONE, GROUP, NO_GSV, NO_RUN,
+    ROWS, ROW_WORDS, TABLE, UNDONE, WAITS,
 };
 
 /// The lines that a table is given, at most.
@@ -93,8 +94,8 @@ fn same_row(table: &[u32], system: System) -> Result<(), String> {
     let mut words: Box<[u64]> = vec![u64::MAX; ROW_WORDS].into();
     let read = linked_row(table, system as usize, &mut words);
     let is_same = match Row::of(row_of(table, system)) {
-        Some(row) => read == 1 && row_read(&words)? == (system, row),
-        None => read == 0 && words.iter().all(|&word| word == u64::MAX),
+        Some(row) => read == DONE && row_read(&words)? == (system, row),
+        None => read == UNDONE && words.iter().all(|&word| word == u64::MAX),
     };
     match is_same {
         true => Ok(()),
@@ -183,11 +184,14 @@ impl fmt::Display for Lent {
 impl fmt::Display for Did {
     fn fmt(&self, f: &mut fmt::Formatter) -> fmt::Result {
         match self {
-            Did::Refused => f.write_str("1, refused"),
-            Did::OtherType => f.write_str("1, of another type"),
-            Did::NoRun => f.write_str("2, no run"),
-            Did::Waits => f.write_str("3, waits"),
-            Did::Group(row) => write!(f, "{}, a group of {:?}", 4 + row, System::ALL[*row]),
+            Did::Refused => write!(f, "{NO_GSV}, refused"),
+            Did::OtherType => write!(f, "{NO_GSV}, of another type"),
+            Did::NoRun => write!(f, "{NO_RUN}, no run"),
+            Did::Waits => write!(f, "{WAITS}, waits"),
+            Did::Group(row) => {
+                let (number, system) = (GROUP + *row as u32, System::ALL[*row]);
+                write!(f, "{number}, a group of {system:?}")
+            }
         }
     }
 }

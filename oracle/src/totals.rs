@@ -60,7 +60,7 @@ pub fn linked_totals(log: &[u8]) -> Result<crate::Totals, u32> {
     let log: Box<[u8]> = log.into();
     let mut totals = Box::new([u64::MAX; proved_nmea::abi::TOTALS]);
     match proved_nmea::abi::walk(&log, totals.as_mut_slice()) {
-        0 => {
+        crate::DONE => {
             let [lines, blank, accepted, refused, groups] = *totals;
             Ok(crate::Totals {
                 lines,

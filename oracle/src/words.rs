@@ -11,6 +11,12 @@ pub use writer::words_of;
 
 pub const WORDS: usize = 40;
 
+/// What a call answers that has written what it must.
+pub const DONE: u32 = 0;
+
+/// What one answers that has written nothing.
+pub const UNDONE: u32 = 255;
+
 /// The words of one answer.
 pub type Words = [u64; WORDS];
 
@@ -30,26 +36,35 @@ pub fn answer_of(words: &Words) -> Result<OursAnswer, String> {
         1 => rmc(&mut reader),
         2 => gsa(&mut reader),
         3 => gsv(&mut reader),
-        4 => Ok(without_exact(Answer::Other([
-            reader.fits()?,
-            reader.fits()?,
-            reader.fits()?,
-        ]))),
-        5 => refusal(&mut reader).map(|refusal| without_exact(Answer::Refused(refusal))),
+        4 => other(&mut reader),
+        5 => refusal(&mut reader).map(|refusal| OursAnswer {
+            answer: Answer::Refused(refusal),
+            exact: Exact::default(),
+        }),
         _ => Err(reader.unfit("no kind of answer")),
     }?;
     reader.end()?;
     Ok(answer)
 }
 
-fn without_exact(answer: Answer) -> OursAnswer {
-    OursAnswer {
-        answer,
-        exact: Exact::default(),
-    }
+/// The talker, with which every accepted line's answer begins.
+fn talker(reader: &mut Reader) -> Result<Option<[u8; 2]>, String> {
+    Ok(Some([reader.fits()?, reader.fits()?]))
+}
+
+fn other(reader: &mut Reader) -> Result<OursAnswer, String> {
+    let talker = talker(reader)?;
+    Ok(OursAnswer {
+        answer: Answer::Other([reader.fits()?, reader.fits()?, reader.fits()?]),
+        exact: Exact {
+            talker,
+            ..Exact::default()
+        },
+    })
 }
 
 fn rmc(reader: &mut Reader) -> Result<OursAnswer, String> {
+    let talker = talker(reader)?;
     let time = reader.optional(4, |reader| {
         Ok(Time {
             hour: reader.fits()?,
@@ -85,6 +100,7 @@ fn rmc(reader: &mut Reader) -> Result<OursAnswer, String> {
     Ok(OursAnswer {
         answer: Answer::Rmc(record),
         exact: Exact {
+            talker,
             position,
             decimals: [speed, course, variation],
             ..Exact::default()
@@ -93,7 +109,7 @@ fn rmc(reader: &mut Reader) -> Result<OursAnswer, String> {
 }
 
 fn gsa(reader: &mut Reader) -> Result<OursAnswer, String> {
-    let talker = [reader.fits()?, reader.fits()?];
+    let talker = talker(reader)?;
     let mode = reader.letter()?;
     let fix = match reader.letter()? {
         letter @ '1'..='3' => letter as u8 - b'0',
@@ -125,7 +141,7 @@ fn gsa(reader: &mut Reader) -> Result<OursAnswer, String> {
     Ok(OursAnswer {
         answer: Answer::Gsa(record),
         exact: Exact {
-            talker: Some(talker),
+            talker,
             decimals,
             ..Exact::default()
         },
@@ -133,7 +149,7 @@ fn gsa(reader: &mut Reader) -> Result<OursAnswer, String> {
 }
 
 fn gsv(reader: &mut Reader) -> Result<OursAnswer, String> {
-    let talker = [reader.fits()?, reader.fits()?];
+    let talker = talker(reader)?;
     let system = reader.system(6)?;
     let sentences = reader.fits()?;
     let number = reader.fits()?;
@@ -152,7 +168,7 @@ fn gsv(reader: &mut Reader) -> Result<OursAnswer, String> {
     Ok(OursAnswer {
         answer: Answer::Gsv(record),
         exact: Exact {
-            talker: Some(talker),
+            talker,
             entries,
             ..Exact::default()
         },

@@ -4,7 +4,8 @@
 
 use oracle::{
     compare_tables, lines::TableGenerator, lines_that_leave, linked_gather, plain_gather, row_of,
-    with_checksum, Cell, Gathered, Lent, Row, System, Why, ROW, TABLE,
+    with_checksum, Cell, Gathered, Lent, Row, System, Why, GROUP, NO_GSV, NO_RUN, ROW, TABLE,
+    WAITS,
 };
 
 /// How many tables the comparison takes: some seconds' worth.
@@ -58,7 +59,7 @@ fn a_byte_decides_whether_a_row_stands() {
     let table = waiting(&[widest, widest]);
     assert_eq!(Lent::of(&table[..ROW]), Lent::Never(Why::Lines));
     let (did, after) = gathered(line, &table);
-    assert_eq!(did, 2);
+    assert_eq!(did, NO_RUN);
     // Only the number that is waited for changes.
     let mut expected = table.clone();
     expected[1] = 0;
@@ -69,7 +70,7 @@ fn a_byte_decides_whether_a_row_stands() {
     let body = &lines_that_leave(&table[..ROW], "GP").expect("a row that stands")[0];
     assert_eq!(with_checksum(body).len(), 102);
     let (did, after) = gathered(line, &table);
-    assert_eq!(did, 4);
+    assert_eq!(did, GROUP);
     let group = Row {
         sentences: 2,
         waits_for: 0,
@@ -111,12 +112,12 @@ fn rows_at_their_limits() {
         let line = format!("GPGSV,{},{},{},7,,,", table[0], table[1], table[2]);
         let (did, _) = gathered(&line, &table);
         match expected {
-            Lent::Run => assert!(did >= 3, "{number}: {did}"),
+            Lent::Run => assert!([WAITS, GROUP].contains(&did), "{number}: {did}"),
             // No line has such an in-view count.
-            Lent::Never(Why::InView) => assert_eq!(did, 1),
+            Lent::Never(Why::InView) => assert_eq!(did, NO_GSV),
             // A number 1 starts anew, whatever the row is.
-            _ if table[1] == 1 => assert_eq!(did, 3),
-            _ => assert_eq!(did, 2, "{number}"),
+            _ if table[1] == 1 => assert_eq!(did, WAITS),
+            _ => assert_eq!(did, NO_RUN, "{number}"),
         }
     }
 }
@@ -145,25 +146,25 @@ fn a_seed_gives_the_same_tables() {
 #[test]
 fn a_wrong_gatherer_is_found() {
     fn waits_for_ever(line: &[u8], words: &mut [u64], table: &mut [u32]) -> u32 {
-        linked_gather(line, words, table).min(3)
+        linked_gather(line, words, table).min(WAITS)
     }
     fn writes_another_row(line: &[u8], words: &mut [u64], table: &mut [u32]) -> u32 {
         let did = linked_gather(line, words, table);
-        if did == 4 {
+        if did == GROUP {
             table[TABLE - 1] ^= 1;
         }
         did
     }
     fn writes_behind_the_count(line: &[u8], words: &mut [u64], table: &mut [u32]) -> u32 {
         let did = linked_gather(line, words, table);
-        if did == 3 && table[3] < 36 {
+        if did == WAITS && table[3] < 36 {
             table[4 + 4 * table[3] as usize] ^= 1;
         }
         did
     }
     fn another_answer(line: &[u8], words: &mut [u64], table: &mut [u32]) -> u32 {
         let did = linked_gather(line, words, table);
-        words[39] += u64::from(did == 2);
+        words[39] += u64::from(did == NO_RUN);
         did
     }
     /// As if a line could have 103 bytes.
@@ -190,7 +191,7 @@ fn a_wrong_gatherer_is_found() {
 /// and leave the row in a fresh table, on both sides.
 #[test]
 fn lines_leave_the_rows_that_stand() {
-    const TALKERS: [&str; 6] = ["GP", "GL", "GA", "BD", "GI", "QZ"];
+    const TALKERS: [&str; 6] = ["GP", "GL", "GA", "BD", "QZ", "GI"];
     let mut generator = TableGenerator::new(2);
     let mut table = Box::new([0; TABLE]);
     let (mut stand, mut empty, mut longest) = (0, 0, 0);
@@ -207,7 +208,7 @@ fn lines_leave_the_rows_that_stand() {
             for line in lines {
                 longest = longest.max(with_checksum(&line).len());
                 let (did, after) = gathered(&line, &left);
-                assert_eq!(did, 3, "{line}");
+                assert_eq!(did, WAITS, "{line}");
                 left = after;
             }
             assert_eq!(Row::of(row_of(&*left, system)), Row::of(row));

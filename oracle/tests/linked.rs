@@ -8,7 +8,7 @@ use oracle::{
     answer_of,
     lines::{exhaustive_parts, worked_lines, Batch, Generator},
     linked, linked_fresh, linked_gather, linked_row, row_read, with_checksum, Cell, Ours, Row,
-    System, ROW, ROW_WORDS, TABLE,
+    System, DONE, GROUP, NO_GSV, NO_RUN, ROW, ROW_WORDS, TABLE, UNDONE, WAITS,
 };
 use proved_nmea::abi;
 
@@ -49,10 +49,10 @@ fn the_number_alone_is_that_of_the_answer() -> Result<(), Box<dyn Error>> {
 #[test]
 fn words_beyond_the_answer_are_left() {
     let mut words = [7; 41];
-    assert_eq!(abi::answer(b"$GPTXT,i*0A", &mut words), 1);
+    assert_eq!(abi::answer(b"$GPTXT,i*0A", &mut words), DONE);
     assert_eq!((words[0], words[39], words[40]), (4, 0, 7));
     let mut few = [7; 39];
-    assert_eq!(abi::answer(b"$GPTXT,i*0A", &mut few), 0);
+    assert_eq!(abi::answer(b"$GPTXT,i*0A", &mut few), UNDONE);
     assert_eq!(few, [7; 39]);
 }
 
@@ -69,24 +69,27 @@ fn filled<T: Clone>(length: usize, word: T) -> Box<[T]> {
 fn only_a_table_is_made_fresh() {
     for length in TABLES {
         let mut table = filled(length, 7);
-        let is_table = length == TABLE;
-        assert_eq!(linked_fresh(&mut table), u32::from(is_table), "{length}");
-        let expected = if is_table { 0 } else { 7 };
+        let (answer, expected) = if length == TABLE {
+            (DONE, 0)
+        } else {
+            (UNDONE, 7)
+        };
+        assert_eq!(linked_fresh(&mut table), answer, "{length}");
         assert!(table.iter().all(|&word| word == expected), "{length}");
     }
 }
 
 /// Each line with buffers and tables of every length: nothing is written where
-/// 0 is answered, and nothing behind what is.
+/// that is answered, and nothing behind what is.
 #[test]
 fn a_line_is_taken_with_words_and_a_table_that_are_long_enough() {
     let lines = [
-        (with_checksum("GPGSV,2,1,02,01,,,"), 3),
-        (with_checksum("GPGSV,1,1,00,"), 4),
-        (with_checksum("GPGSV,1,2,00,"), 2),
-        (with_checksum("GPTXT,i"), 1),
-        (String::new(), 1),
-        ("x".into(), 1),
+        (with_checksum("GPGSV,2,1,02,01,,,"), WAITS),
+        (with_checksum("GPGSV,1,1,00,"), GROUP),
+        (with_checksum("GPGSV,1,2,00,"), NO_RUN),
+        (with_checksum("GPTXT,i"), NO_GSV),
+        (String::new(), NO_GSV),
+        ("x".into(), NO_GSV),
     ];
     for (line, expected) in lines {
         let line = line.as_bytes();
@@ -98,7 +101,7 @@ fn a_line_is_taken_with_words_and_a_table_that_are_long_enough() {
                 let mut table = filled(length, 7);
                 let did = linked_gather(line, &mut words, &mut table);
                 if count < 40 || length != TABLE {
-                    assert_eq!(did, 0, "{at}");
+                    assert_eq!(did, UNDONE, "{at}");
                     assert!(words.iter().all(|&word| word == 7), "{at}");
                     assert!(table.iter().all(|&word| word == 7), "{at}");
                     continue;
@@ -107,10 +110,10 @@ fn a_line_is_taken_with_words_and_a_table_that_are_long_enough() {
                 assert_eq!(words[..40], answer, "{at}");
                 assert!(words[40..].iter().all(|&word| word == 7), "{at}");
                 let row: &[u32] = match did {
-                    2 => &[7, 0],
+                    NO_RUN => &[7, 0],
                     // Of two sentences the second is waited for; one has come.
-                    3 => &[2, 2, 2, 1, 1, u32::MAX, u32::MAX, u32::MAX],
-                    4 => &[1, 0, 0, 0],
+                    WAITS => &[2, 2, 2, 1, 1, u32::MAX, u32::MAX, u32::MAX],
+                    GROUP => &[1, 0, 0, 0],
                     _ => &[],
                 };
                 assert_eq!(table[..row.len()], *row, "{at}");
@@ -130,7 +133,7 @@ fn a_row_is_read_into_words_that_are_enough() {
                 let mut words = filled(count, 9);
                 let read = linked_row(&table, row, &mut words);
                 let is_read = length == TABLE && row < 6 && count >= ROW_WORDS;
-                assert_eq!(read, u32::from(is_read), "{at}");
+                assert_eq!(read, if is_read { DONE } else { UNDONE }, "{at}");
                 assert!(table.iter().all(|&word| word == 7), "{at}");
                 let written = if is_read { ROW_WORDS } else { 0 };
                 assert!(words[written..].iter().all(|&word| word == 9), "{at}");
@@ -158,16 +161,22 @@ fn a_row_is_read_into_words_that_are_enough() {
 /// A row of 36 satellites is read, and one that counts more is not.
 #[test]
 fn a_row_has_at_most_36_satellites() {
-    for (count, expected) in [(0, 1), (36, 1), (37, 0), (256, 0), (u32::MAX, 0)] {
+    for (count, expected) in [
+        (0, DONE),
+        (36, DONE),
+        (37, UNDONE),
+        (256, UNDONE),
+        (u32::MAX, UNDONE),
+    ] {
         let mut table = filled(TABLE, 0);
         table[5 * ROW + 3] = count;
         let mut words = filled(ROW_WORDS, 9);
         assert_eq!(linked_row(&table, 5, &mut words), expected, "{count}");
         match expected {
-            0 => assert!(words.iter().all(|&word| word == 9), "{count}"),
+            UNDONE => assert!(words.iter().all(|&word| word == 9), "{count}"),
             _ => {
                 let (system, row) = row_read(&words).expect("the words of a row");
-                assert_eq!((system, row.cells.len()), (System::Qzss, count as usize));
+                assert_eq!((system, row.cells.len()), (System::NavIc, count as usize));
             }
         }
     }
@@ -181,6 +190,6 @@ fn a_line_that_is_taken_is_answered_the_same() {
         let mut words = filled(40, u64::MAX);
         let did = linked_gather(line, &mut words, &mut table);
         assert_eq!(*words, linked(line), "{}", line.escape_ascii());
-        assert_eq!(did > 1, words[0] == 3, "{}", line.escape_ascii());
+        assert_eq!(did != NO_GSV, words[0] == 3, "{}", line.escape_ascii());
     }
 }

@@ -128,8 +128,8 @@ fn groups_by_hand() {
 mod linked {
     use oracle::{
         answer_of, expected, linked, linked_fresh, linked_gather, linked_row, linked_totals,
-        row_read, stretches, Answer, Cell, Entry, Gathered, Group, Log, WholeEntry, ROW_WORDS,
-        TABLE,
+        row_read, stretches, Answer, Cell, Entry, Gathered, Group, Log, WholeEntry, DONE,
+        ROW_WORDS, TABLE,
     };
 
     use super::*;
@@ -204,7 +204,7 @@ mod linked {
     /// The groups that our side gathers over a table, line by line.
     fn gathered(lines: &[&[u8]]) -> Vec<(usize, Group)> {
         let mut table = vec![7; TABLE];
-        assert_eq!(linked_fresh(&mut table), 1);
+        assert_eq!(linked_fresh(&mut table), DONE);
         let mut words = [0; 40];
         let mut groups = vec![];
         for (index, line) in lines.iter().enumerate() {
@@ -213,7 +213,7 @@ mod linked {
                 continue;
             };
             let mut words = [0; ROW_WORDS];
-            assert_eq!(linked_row(&table, system as usize, &mut words), 1);
+            assert_eq!(linked_row(&table, system as usize, &mut words), DONE);
             let (read, row) = row_read(&words).expect("the words of a row");
             assert_eq!((read, row.waits_for), (system, 0));
             let number = |word: u32| u16::try_from(word).expect("a number of a line");

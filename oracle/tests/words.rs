@@ -1,11 +1,14 @@
 //! The comparison itself: words written by hand from docs/ABI.md stand, and
-//! no word of them can be changed without being found.
+//! no word of them can be changed without being found. The names that
+//! include/nmea.h has for their places lead to them.
+
+use std::error::Error;
 
 use oracle::{
     answer_of, crate_answer, expected, judge,
     lines::{exhaustive_parts, worked_lines, Batch, Generator},
-    row_read, with_checksum, words_of, Answer, Cell, Domain, Exact, Gathered, OursAnswer, Refusal,
-    Row, System, Words, ABSENT, CELLS, ROW, ROWS, ROW_WORDS, TABLE,
+    row_read, with_checksum, words_of, Answer, Cell, Domain, Exact, Gathered, Ours, OursAnswer,
+    Refusal, Row, System, Words, ABSENT, CELLS, DONE, ROW, ROWS, ROW_WORDS, TABLE, UNDONE,
 };
 
 const RMC: &str = "$GNRMC,101500.25,A,5130.5,N,00006.0,W,4.5,270.0,290224,,,A*5F";
@@ -67,8 +70,9 @@ fn only(line: impl AsRef<[u8]>, first: &[u64], domain: Domain) {
 fn rmc() {
     let latitude = 51. + 30.5 / 60.;
     let longitude: f64 = -(6. / 60.);
-    let first: [&[u64]; 8] = [
-        &[1, 1, 10, 15, 0, 250_000_000, letter('A')],
+    let first: [&[u64]; 9] = [
+        &[1, letter('G'), letter('N')],
+        &[1, 10, 15, 0, 250_000_000, letter('A')],
         &[1, 0, 3_090_500_000_000, letter('N'), f64::to_bits(latitude)],
         &[1, 6_000_000_000, letter('W'), longitude.to_bits()],
         &[1, 0, 45, 1, f32_bits(4.5)],
@@ -82,9 +86,9 @@ fn rmc() {
 
 #[test]
 fn minus_zero_is_a_float_only() {
-    let mut first = words(&[1]);
-    first[6] = letter('A');
-    first[30..35].copy_from_slice(&[1, 0, 0, 0, f32_bits(-0.)]);
+    let mut first = words(&[1, letter('G'), letter('P')]);
+    first[8] = letter('A');
+    first[32..37].copy_from_slice(&[1, 0, 0, 0, f32_bits(-0.)]);
     only(WEST, &first, Domain::Inside);
 }
 
@@ -115,7 +119,8 @@ fn gsv() {
 
 #[test]
 fn other() {
-    let first = [4, letter('T'), letter('X'), letter('T')];
+    let [g, p, t, x] = ['G', 'P', 'T', 'X'].map(letter);
+    let first = [4, g, p, t, x, t];
     only("$GPTXT,i*0A", &first, Domain::Inside);
 }
 
@@ -289,9 +294,8 @@ fn sizes_of_tables() {
 
 #[test]
 fn what_a_line_did() {
-    let did: Vec<Option<Gathered>> = (0..11).map(Gathered::of).collect();
+    let did: Vec<Option<Gathered>> = (0..10).map(Gathered::of).collect();
     let mut expected = vec![
-        None,
         Some(Gathered::NoGsv),
         Some(Gathered::NoRun),
         Some(Gathered::Waits),
@@ -299,39 +303,305 @@ fn what_a_line_did() {
     expected.extend(System::ALL.map(|system| Some(Gathered::Group(system))));
     expected.push(None);
     assert_eq!(did, expected);
+    assert_eq!(Gathered::of(255), None);
 }
 
-/// The number of a constant of include/nmea.h.
-fn of_header(name: &str) -> u32 {
-    let define = format!("#define {name} ");
-    let number = include_str!("../../include/nmea.h")
-        .lines()
-        .find_map(|line| line.strip_prefix(&define))
-        .unwrap_or_else(|| panic!("no {name}"));
-    number.trim_end_matches('u').parse().expect("a number")
+/// The number of a constant of include/nmea.h, by its name without `NMEA_`; of
+/// several and of numbers their sum.
+fn of_header(sum: &str) -> usize {
+    let constant = |name: &str| -> usize {
+        let define = format!("#define NMEA_{name} ");
+        let number = include_str!("../../include/nmea.h")
+            .lines()
+            .find_map(|line| line.strip_prefix(&define))
+            .unwrap_or_else(|| panic!("no NMEA_{name}"));
+        number.trim_end_matches('u').parse().expect("a number")
+    };
+    let summands = sum.split(" + ");
+    summands
+        .map(|summand| summand.parse().unwrap_or_else(|_| constant(summand)))
+        .sum()
 }
 
 /// What the oracle goes by is what a caller in C does.
 #[test]
 fn constants_of_the_header() {
     for (name, number) in [
-        ("NMEA_WORDS", words(&[]).len()),
-        ("NMEA_ROWS", ROWS),
-        ("NMEA_ROW", ROW),
-        ("NMEA_TABLE", TABLE),
-        ("NMEA_CELLS", CELLS),
-        ("NMEA_ROW_WORDS", ROW_WORDS),
-        ("NMEA_ABSENT", ABSENT as usize),
+        ("WORDS", words(&[]).len()),
+        ("ROWS", ROWS),
+        ("ROW", ROW),
+        ("TABLE", TABLE),
+        ("CELLS", CELLS),
+        ("ROW_WORDS", ROW_WORDS),
+        ("ABSENT", ABSENT as usize),
+        ("DONE", DONE as usize),
+        ("UNDONE", UNDONE as usize),
     ] {
-        assert_eq!(of_header(name) as usize, number, "{name}");
+        assert_eq!(of_header(name), number, "{name}");
     }
     for (name, did) in [
-        ("NMEA_NOT_TAKEN", None),
-        ("NMEA_NO_GSV", Some(Gathered::NoGsv)),
-        ("NMEA_NO_RUN", Some(Gathered::NoRun)),
-        ("NMEA_WAITS", Some(Gathered::Waits)),
-        ("NMEA_GROUP", Some(Gathered::Group(System::Gps))),
+        ("UNDONE", None),
+        ("NO_GSV", Some(Gathered::NoGsv)),
+        ("NO_RUN", Some(Gathered::NoRun)),
+        ("WAITS", Some(Gathered::Waits)),
+        ("GROUP", Some(Gathered::Group(System::Gps))),
     ] {
-        assert_eq!(Gathered::of(of_header(name)), did, "{name}");
+        assert_eq!(Gathered::of(of_header(name) as u32), did, "{name}");
     }
+    for (name, system) in [
+        ("GPS", System::Gps),
+        ("GLONASS", System::Glonass),
+        ("GALILEO", System::Galileo),
+        ("BEIDOU", System::Beidou),
+        ("QZSS", System::Qzss),
+        ("NAVIC", System::NavIc),
+    ] {
+        assert_eq!(of_header(name), system.number().into(), "{name}");
+    }
+}
+
+/// Holds the words at places that the header names to what they must be; at no
+/// other place is there anything but 0.
+fn at_places(words: &[u64], places: &[(&str, u64)]) {
+    let mut others = words.to_vec();
+    for &(place, expected) in places {
+        let at = of_header(place);
+        assert_eq!(words[at], expected, "{place}");
+        others[at] = 0;
+    }
+    assert!(others.iter().all(|&word| word == 0), "{others:?}");
+}
+
+/// The same of our answer to a sentence.
+fn answered(body: &str, places: &[(&str, u64)]) -> Result<(), Box<dyn Error>> {
+    let lines: Batch = [with_checksum(body)].into_iter().collect();
+    let answers = Ours::find()?.answers(&lines)?;
+    at_places(&answers[0], places);
+    Ok(())
+}
+
+#[test]
+fn rmc_by_the_names_of_the_header() -> Result<(), Box<dyn Error>> {
+    answered(
+        "GNRMC,101500.25,A,5130.5,N,00006.0,W,4.5,270.0,290224,20.3,W,D,V",
+        &[
+            ("KIND", of_header("RMC") as u64),
+            ("TALKER", letter('G')),
+            ("TALKER + 1", letter('N')),
+            ("RMC_TIME", 1),
+            ("RMC_TIME + TIME_HOUR", 10),
+            ("RMC_TIME + TIME_MINUTE", 15),
+            ("RMC_TIME + TIME_SECOND", 0),
+            ("RMC_TIME + TIME_NANOSECOND", 250_000_000),
+            ("RMC_STATUS", letter('A')),
+            ("RMC_POSITION", 1),
+            ("RMC_LATITUDE + COORDINATE_SIGN", 0),
+            ("RMC_LATITUDE + COORDINATE_SIZE", 3_090_500_000_000),
+            ("RMC_LATITUDE + COORDINATE_LETTER", letter('N')),
+            (
+                "RMC_LATITUDE + COORDINATE_DEGREES",
+                f64::to_bits(51. + 30.5 / 60.),
+            ),
+            ("RMC_LONGITUDE + COORDINATE_SIGN", 1),
+            ("RMC_LONGITUDE + COORDINATE_SIZE", 6_000_000_000),
+            ("RMC_LONGITUDE + COORDINATE_LETTER", letter('W')),
+            ("RMC_LONGITUDE + COORDINATE_DEGREES", f64::to_bits(-0.1)),
+            ("RMC_SPEED", 1),
+            ("RMC_SPEED + DECIMAL_SIGN", 0),
+            ("RMC_SPEED + DECIMAL_SIZE", 45),
+            ("RMC_SPEED + DECIMAL_DECIMALS", 1),
+            ("RMC_SPEED + DECIMAL_VALUE", f32_bits(4.5)),
+            ("RMC_COURSE", 1),
+            ("RMC_COURSE + DECIMAL_SIGN", 0),
+            ("RMC_COURSE + DECIMAL_SIZE", 2700),
+            ("RMC_COURSE + DECIMAL_DECIMALS", 1),
+            ("RMC_COURSE + DECIMAL_VALUE", f32_bits(270.)),
+            ("RMC_DATE", 1),
+            ("RMC_DATE + DATE_YEAR", 2024),
+            ("RMC_DATE + DATE_MONTH", 2),
+            ("RMC_DATE + DATE_DAY", 29),
+            ("RMC_VARIATION", 1),
+            ("RMC_VARIATION + DECIMAL_SIGN", 1),
+            ("RMC_VARIATION + DECIMAL_SIZE", 203),
+            ("RMC_VARIATION + DECIMAL_DECIMALS", 1),
+            ("RMC_VARIATION + DECIMAL_VALUE", f32_bits(-20.3)),
+            ("RMC_MODE", letter('D')),
+            ("RMC_NAVIGATION", letter('V')),
+        ],
+    )
+}
+
+#[test]
+fn gsa_by_the_names_of_the_header() -> Result<(), Box<dyn Error>> {
+    answered(
+        "GLGSA,A,3,,,,,,16,18,,,,,,3.65,21,2.2",
+        &[
+            ("KIND", of_header("GSA") as u64),
+            ("TALKER", letter('G')),
+            ("TALKER + 1", letter('L')),
+            ("GSA_MODE", letter('A')),
+            ("GSA_FIX", letter('3')),
+            ("GSA_SYSTEM", of_header("GLONASS") as u64),
+            ("GSA_DOPS", 1),
+            ("GSA_PDOP + DOP_SIGN", 0),
+            ("GSA_PDOP + DOP_SIZE", 365),
+            ("GSA_PDOP + DOP_DECIMALS", 2),
+            ("GSA_PDOP + DOP_VALUE", f32_bits(3.65)),
+            ("GSA_HDOP + DOP_SIGN", 0),
+            ("GSA_HDOP + DOP_SIZE", 21),
+            ("GSA_HDOP + DOP_DECIMALS", 0),
+            ("GSA_HDOP + DOP_VALUE", f32_bits(21.)),
+            ("GSA_VDOP + DOP_SIGN", 0),
+            ("GSA_VDOP + DOP_SIZE", 22),
+            ("GSA_VDOP + DOP_DECIMALS", 1),
+            ("GSA_VDOP + DOP_VALUE", f32_bits(2.2)),
+            ("GSA_COUNT", 2),
+            ("GSA_SATELLITES", 16),
+            ("GSA_SATELLITES + 1", 18),
+        ],
+    )
+}
+
+#[test]
+fn gsv_by_the_names_of_the_header() -> Result<(), Box<dyn Error>> {
+    // Behind the four entries stands one word that is 0.
+    let entries = of_header("ENTRIES") * of_header("ENTRY_WORDS");
+    assert_eq!(of_header("GSV_ENTRIES + 1") + entries, of_header("WORDS"));
+    answered(
+        "QZGSV,3,2,11,193,42,067,39,194,,311,",
+        &[
+            ("KIND", of_header("GSV") as u64),
+            ("TALKER", letter('Q')),
+            ("TALKER + 1", letter('Z')),
+            ("GSV_SYSTEM", of_header("QZSS") as u64),
+            ("GSV_SENTENCES", 3),
+            ("GSV_NUMBER", 2),
+            ("GSV_VIEW", 11),
+            ("GSV_ENTRIES", 1),
+            ("GSV_ENTRIES + ENTRY_SATELLITE", 193),
+            ("GSV_ENTRIES + ENTRY_ELEVATION", 1),
+            ("GSV_ENTRIES + ENTRY_ELEVATION + OPTION_NUMBER", 42),
+            ("GSV_ENTRIES + ENTRY_AZIMUTH", 1),
+            ("GSV_ENTRIES + ENTRY_AZIMUTH + OPTION_NUMBER", 67),
+            ("GSV_ENTRIES + ENTRY_SIGNAL", 1),
+            ("GSV_ENTRIES + ENTRY_SIGNAL + OPTION_NUMBER", 39),
+            ("GSV_ENTRIES + ENTRY_WORDS", 1),
+            ("GSV_ENTRIES + ENTRY_WORDS + ENTRY_SATELLITE", 194),
+            ("GSV_ENTRIES + ENTRY_WORDS + ENTRY_AZIMUTH", 1),
+            (
+                "GSV_ENTRIES + ENTRY_WORDS + ENTRY_AZIMUTH + OPTION_NUMBER",
+                311,
+            ),
+        ],
+    )
+}
+
+#[test]
+fn others_and_refusals_by_the_names_of_the_header() -> Result<(), Box<dyn Error>> {
+    answered(
+        "GPTXT,i",
+        &[
+            ("KIND", of_header("OTHER") as u64),
+            ("TALKER", letter('G')),
+            ("TALKER + 1", letter('P')),
+            ("OTHER_TYPE", letter('T')),
+            ("OTHER_TYPE + 1", letter('X')),
+            ("OTHER_TYPE + 2", letter('T')),
+        ],
+    )?;
+    // Talker and tail name two systems.
+    answered(
+        "GBGSA,A,1,,,,3",
+        &[
+            ("KIND", of_header("REFUSED") as u64),
+            ("REFUSED_NUMBER", 8),
+            ("REFUSED_COUNT", 2),
+            ("REFUSED_VALUES", of_header("BEIDOU") as u64),
+            ("REFUSED_VALUES + 1", of_header("GALILEO") as u64),
+        ],
+    )
+}
+
+/// Holds words to be the row of [`row_words`], as it is read and in a table.
+fn is_the_row(read: &[u64], in_table: &[u32]) {
+    at_places(
+        read,
+        &[
+            ("ROW_SYSTEM", of_header("BEIDOU") as u64),
+            ("ROW_SENTENCES", 3),
+            ("ROW_WAITS_FOR", 2),
+            ("ROW_VIEW", 11),
+            ("ROW_COUNT", 2),
+            ("ROW_ENTRIES", 1),
+            ("ROW_ENTRIES + ENTRY_SATELLITE", 22),
+            ("ROW_ENTRIES + ENTRY_ELEVATION", 1),
+            ("ROW_ENTRIES + ENTRY_ELEVATION + OPTION_NUMBER", 42),
+            ("ROW_ENTRIES + ENTRY_AZIMUTH", 1),
+            ("ROW_ENTRIES + ENTRY_AZIMUTH + OPTION_NUMBER", 67),
+            ("ROW_ENTRIES + ENTRY_SIGNAL", 1),
+            ("ROW_ENTRIES + ENTRY_SIGNAL + OPTION_NUMBER", 0),
+            ("ROW_ENTRIES + ENTRY_WORDS", 1),
+            ("ROW_ENTRIES + ENTRY_WORDS + ENTRY_SATELLITE", 4_294_967_295),
+        ],
+    );
+    let in_table: Vec<u64> = in_table.iter().copied().map(u64::from).collect();
+    let absent = of_header("ABSENT") as u64;
+    at_places(
+        &in_table,
+        &[
+            ("RUN_SENTENCES", 3),
+            ("RUN_WAITS_FOR", 2),
+            ("RUN_VIEW", 11),
+            ("RUN_COUNT", 2),
+            ("RUN_CELLS + CELL_SATELLITE", 22),
+            ("RUN_CELLS + CELL_ELEVATION", 42),
+            ("RUN_CELLS + CELL_AZIMUTH", 67),
+            ("RUN_CELLS + CELL_SIGNAL", 0),
+            ("RUN_CELLS + CELL_WORDS + CELL_SATELLITE", 4_294_967_295),
+            ("RUN_CELLS + CELL_WORDS + CELL_ELEVATION", absent),
+            ("RUN_CELLS + CELL_WORDS + CELL_AZIMUTH", absent),
+            ("RUN_CELLS + CELL_WORDS + CELL_SIGNAL", absent),
+        ],
+    );
+}
+
+#[test]
+fn a_row_by_the_names_of_the_header() {
+    let mut in_table = [0; ROW];
+    let (_, row) = row_read(&row_words()).expect("the words of a row");
+    row.put(&mut in_table);
+    is_the_row(&row_words(), &in_table);
+}
+
+/// The same of what our side writes, and a log's totals.
+#[test]
+#[cfg(target_arch = "x86_64")]
+fn calls_by_the_names_of_the_header() {
+    use proved_nmea::abi;
+
+    let is = |answer: u32, name: &str| assert_eq!(answer as usize, of_header(name));
+    let mut table = [7; TABLE];
+    is(abi::fresh(&mut table), "DONE");
+    let first = with_checksum("BDGSV,3,1,11,22,42,067,00,4294967295,,,");
+    let taken = abi::gather(first.as_bytes(), &mut words(&[]), &mut table);
+    is(taken, "WAITS");
+    let row = of_header("BEIDOU") - 1;
+    let mut read = [7; ROW_WORDS];
+    is(abi::row(&table, row, &mut read), "DONE");
+    is_the_row(&read, &table[row * ROW..][..ROW]);
+
+    let group = with_checksum("GPGSV,1,1,00,");
+    let log = format!("{first}\n{group}\n\n\n{group}\nx\n\n{first}\n{first}\n");
+    let mut totals = vec![7; of_header("TOTALS")];
+    is(abi::walk(log.as_bytes(), &mut totals), "DONE");
+    at_places(
+        &totals,
+        &[
+            ("TOTALS_LINES", 9),
+            ("TOTALS_BLANK", 3),
+            ("TOTALS_ACCEPTED", 5),
+            ("TOTALS_REFUSED", 1),
+            ("TOTALS_GROUPS", 2),
+        ],
+    );
 }

@@ -1,15 +1,5 @@
 use super::{random::Random, Generator};
-use crate::with_checksum;
-
-/// The talkers of one system each; those of some count together.
-const SYSTEMS: [&[&str]; 6] = [
-    &["GP"],
-    &["GL"],
-    &["GA"],
-    &["BD", "GB"],
-    &["GI"],
-    &["GQ", "PQ", "QZ"],
-];
+use crate::{known::TALKERS, with_checksum};
 
 /// A receiver's list of one system, of which some sentences were sent.
 struct List {
@@ -29,7 +19,7 @@ pub fn generated_log(seed: u64) -> Vec<u8> {
     // How much of the log is amiss.
     let fault_in = random.pick(&[4, 8, 20, 1000]);
     // Many systems, or a few whose lists cut each other.
-    let systems = random.between(1, SYSTEMS.len());
+    let systems = random.between(1, TALKERS.len());
     for _ in 0..random.between(0, 80) {
         if lists.is_empty() || random.one_in(6) {
             lists.push(list(&mut random, systems));
@@ -63,7 +53,7 @@ pub fn generated_log(seed: u64) -> Vec<u8> {
 
 fn list(random: &mut Random, systems: usize) -> List {
     List {
-        talkers: SYSTEMS[random.below(systems)],
+        talkers: TALKERS[random.below(systems)],
         sentences: random.pick(&[1, 1, 2, 2, 3, 3, 4, 9]),
         next: 1,
         in_view: random.between(1, 3),

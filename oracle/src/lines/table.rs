@@ -3,20 +3,10 @@
 use super::{draft::put_whole, random::Random, Generator};
 use crate::{
     checksum, hexadecimal,
-    known::LONGEST,
+    known::{LONGEST, TALKERS},
     table::{ABSENT, CELLS, ROW, ROWS},
     Table,
 };
-
-/// The talkers of the rows' systems.
-const TALKERS: [&[&str]; ROWS] = [
-    &["GP"],
-    &["GL"],
-    &["GA"],
-    &["BD", "GB"],
-    &["GI"],
-    &["GQ", "PQ", "QZ"],
-];
 
 /// In-view counts around a change of their digits, and the largest.
 const IN_VIEW: [u32; 10] = [0, 8, 9, 10, 12, 99, 100, 9_999, 10_000, 65_535];

@@ -13,7 +13,7 @@ pub fn words_of(ours: &OursAnswer) -> Words {
         Answer::Gsa(record) => writer.gsa(record, &ours.exact),
         Answer::Gsv(record) => writer.gsv(record, &ours.exact),
         Answer::Other(name) => {
-            writer.put(4u8);
+            writer.head(4, &ours.exact);
             writer.bytes(name);
         }
         Answer::Refused(refusal) => writer.refusal(refusal),
@@ -50,8 +50,14 @@ impl Writer {
         self.at = end;
     }
 
+    /// What follows, and the talker.
+    fn head(&mut self, kind: u8, exact: &Exact) {
+        self.put(kind);
+        self.bytes(&exact.talker.unwrap_or_default());
+    }
+
     fn rmc(&mut self, record: &Rmc, exact: &Exact) {
-        self.put(1u8);
+        self.head(1, exact);
         self.optional(record.time, 4, |writer, time| {
             writer.put(time.hour);
             writer.put(time.minute);
@@ -79,8 +85,7 @@ impl Writer {
     }
 
     fn gsa(&mut self, record: &Gsa, exact: &Exact) {
-        self.put(2u8);
-        self.bytes(&exact.talker.unwrap_or_default());
+        self.head(2, exact);
         self.put(record.mode);
         self.put(b'0' + record.fix);
         self.put(record.system.map_or(0, System::number));
@@ -101,8 +106,7 @@ impl Writer {
     }
 
     fn gsv(&mut self, record: &Gsv, exact: &Exact) {
-        self.put(3u8);
-        self.bytes(&exact.talker.unwrap_or_default());
+        self.head(3, exact);
         self.put(record.system.number());
         self.put(record.sentences);
         self.put(record.number);

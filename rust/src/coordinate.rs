@@ -1,6 +1,12 @@
 use std::fmt;
 
-use crate::words::{Unfit, Words};
+use crate::{
+    places::{
+        COORDINATE_DEGREES, COORDINATE_LETTER, COORDINATE_SIGN, COORDINATE_SIZE, RMC_LATITUDE,
+        RMC_LONGITUDE,
+    },
+    words::{Unfit, Words},
+};
 
 letters! {
     /// The half of the earth that a coordinate lies in.
@@ -38,22 +44,22 @@ pub struct Position {
 }
 
 impl Coordinate {
-    pub(crate) fn of(words: &Words, at: usize) -> Result<Self, Unfit> {
-        let minus = words.flag(at)?;
-        let size: i64 = words.number(at + 1)?;
+    fn of(words: &Words, at: usize) -> Result<Self, Unfit> {
+        let minus = words.flag(at + COORDINATE_SIGN)?;
+        let size: i64 = words.number(at + COORDINATE_SIZE)?;
         Ok(Coordinate {
             billionths: if minus { -size } else { size },
-            hemisphere: Hemisphere::of(words, at + 2)?,
-            degrees: f64::from_bits(words.word(at + 3)?),
+            hemisphere: Hemisphere::of(words, at + COORDINATE_LETTER)?,
+            degrees: f64::from_bits(words.word(at + COORDINATE_DEGREES)?),
         })
     }
 }
 
 impl Position {
-    pub(crate) fn of(words: &Words, at: usize) -> Result<Self, Unfit> {
+    pub(crate) fn of(words: &Words) -> Result<Self, Unfit> {
         Ok(Position {
-            latitude: Coordinate::of(words, at)?,
-            longitude: Coordinate::of(words, at + 4)?,
+            latitude: Coordinate::of(words, RMC_LATITUDE)?,
+            longitude: Coordinate::of(words, RMC_LONGITUDE)?,
         })
     }
 }

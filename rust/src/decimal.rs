@@ -1,6 +1,12 @@
 use std::fmt;
 
-use crate::words::{Unfit, Words};
+use crate::{
+    places::{
+        DECIMAL_DECIMALS, DECIMAL_SIGN, DECIMAL_SIZE, DECIMAL_VALUE, DOP_DECIMALS, DOP_SIGN,
+        DOP_SIZE, DOP_VALUE,
+    },
+    words::{Unfit, Words},
+};
 
 /// A decimal of at most 7 digits: exactly, and as the nearest float.
 #[derive(Clone, Copy, Debug, PartialEq)]
@@ -15,13 +21,25 @@ pub struct Decimal {
 }
 
 impl Decimal {
+    /// One that may be absent by itself, and is there.
     pub(crate) fn of(words: &Words, at: usize) -> Result<Self, Unfit> {
-        let minus = words.flag(at)?;
-        let size: i32 = words.number(at + 1)?;
+        let places = [DECIMAL_SIGN, DECIMAL_SIZE, DECIMAL_DECIMALS, DECIMAL_VALUE];
+        Decimal::at(words, places.map(|place| at + place))
+    }
+
+    /// A dilution of precision.
+    pub(crate) fn of_dop(words: &Words, at: usize) -> Result<Self, Unfit> {
+        let places = [DOP_SIGN, DOP_SIZE, DOP_DECIMALS, DOP_VALUE];
+        Decimal::at(words, places.map(|place| at + place))
+    }
+
+    fn at(words: &Words, [sign, size, decimals, value]: [usize; 4]) -> Result<Self, Unfit> {
+        let minus = words.flag(sign)?;
+        let size: i32 = words.number(size)?;
         Ok(Decimal {
             whole: if minus { -size } else { size },
-            decimals: words.number(at + 2)?,
-            value: f32::from_bits(words.number(at + 3)?),
+            decimals: words.number(decimals)?,
+            value: f32::from_bits(words.number(value)?),
         })
     }
 

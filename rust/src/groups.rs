@@ -1,5 +1,6 @@
 use crate::{
     abi::{self, ROW_WORDS},
+    places::{ENTRY_WORDS, ROW_COUNT, ROW_ENTRIES, ROW_SENTENCES, ROW_SYSTEM, ROW_VIEW},
     words::{Unfit, Words},
     Entry, System,
 };
@@ -31,25 +32,25 @@ impl Group {
     /// The group that a row of the table is; the lines are those of its sentences, from the first on.
     pub(crate) fn of(table: &[u32], row: usize, lines: &[u64]) -> Result<Self, Unfit> {
         let mut words = [0; ROW_WORDS];
-        // It is 0 only for a row that no line completed, and then the system is unfit.
+        // Undone it is only for a row that no line completed, and then the system is unfit.
         abi::row(table, row, &mut words);
         let words = Words(&words);
-        let sentences = words.number(1)?;
-        let count: usize = words.number(4)?;
+        let sentences = words.number(ROW_SENTENCES)?;
+        let count: usize = words.number(ROW_COUNT)?;
         if count > Group::ENTRIES {
-            return Err(words.unfit(4));
+            return Err(words.unfit(ROW_COUNT));
         }
-        let entries = (0..count).map(|i| words.part(5 + i * Entry::WORDS, Entry::of));
+        let entries = (0..count).map(|i| words.part(ROW_ENTRIES + i * ENTRY_WORDS, Entry::of));
         Ok(Group {
-            system: System::of(&words, 0)?,
+            system: System::of(&words, ROW_SYSTEM)?,
             sentences,
-            in_view: words.number(3)?,
+            in_view: words.number(ROW_VIEW)?,
             entries: entries
                 .flat_map(Result::transpose)
                 .collect::<Result<_, _>>()?,
             lines: lines
                 .get(..sentences.into())
-                .ok_or_else(|| words.unfit(1))?
+                .ok_or_else(|| words.unfit(ROW_SENTENCES))?
                 .to_vec(),
         })
     }

@@ -1,4 +1,8 @@
 use crate::{
+    places::{
+        GSA_COUNT, GSA_DOPS, GSA_FIX, GSA_HDOP, GSA_MODE, GSA_PDOP, GSA_SATELLITES, GSA_SYSTEM,
+        GSA_VDOP, TALKER,
+    },
     words::{Unfit, Words},
     Decimal, System, Talker,
 };
@@ -55,11 +59,11 @@ pub struct Gsa {
 }
 
 impl Dops {
-    fn of(words: &Words, at: usize) -> Result<Self, Unfit> {
+    fn of(words: &Words) -> Result<Self, Unfit> {
         Ok(Dops {
-            pdop: Decimal::of(words, at)?,
-            hdop: Decimal::of(words, at + 4)?,
-            vdop: Decimal::of(words, at + 8)?,
+            pdop: Decimal::of_dop(words, GSA_PDOP)?,
+            hdop: Decimal::of_dop(words, GSA_HDOP)?,
+            vdop: Decimal::of_dop(words, GSA_VDOP)?,
         })
     }
 }
@@ -69,18 +73,18 @@ impl Gsa {
     pub const SATELLITES: usize = 18;
 
     pub(crate) fn of(words: &Words) -> Result<Self, Unfit> {
-        let count: usize = words.number(19)?;
+        let count: usize = words.number(GSA_COUNT)?;
         if count > Gsa::SATELLITES {
-            return Err(words.unfit(19));
+            return Err(words.unfit(GSA_COUNT));
         }
         Ok(Gsa {
-            talker: Talker::of(words, 1)?,
-            selection: Selection::of(words, 3)?,
-            fix: Fix::of(words, 4)?,
-            system: words.unless_zero(5, System::of)?,
-            dops: words.part(6, Dops::of)?,
-            satellites: (20..20 + count)
-                .map(|at| words.number(at))
+            talker: Talker::of(words, TALKER)?,
+            selection: Selection::of(words, GSA_MODE)?,
+            fix: Fix::of(words, GSA_FIX)?,
+            system: words.unless_zero(GSA_SYSTEM, System::of)?,
+            dops: words.part(GSA_DOPS, |words, _| Dops::of(words))?,
+            satellites: (0..count)
+                .map(|i| words.number(GSA_SATELLITES + i))
                 .collect::<Result<_, _>>()?,
         })
     }

@@ -1,4 +1,8 @@
 use crate::{
+    places::{
+        ENTRIES, ENTRY_AZIMUTH, ENTRY_ELEVATION, ENTRY_SATELLITE, ENTRY_SIGNAL, ENTRY_WORDS,
+        GSV_ENTRIES, GSV_NUMBER, GSV_SENTENCES, GSV_SYSTEM, GSV_VIEW, TALKER,
+    },
     words::{Unfit, Words},
     System, Talker,
 };
@@ -35,33 +39,29 @@ pub struct Gsv {
 }
 
 impl Entry {
-    /// The words of an entry, with the one before it that says whether it is present.
-    pub(crate) const WORDS: usize = 8;
-
     pub(crate) fn of(words: &Words, at: usize) -> Result<Self, Unfit> {
         Ok(Entry {
-            satellite: words.number(at)?,
-            elevation: words.part(at + 1, Words::number)?,
-            azimuth: words.part(at + 3, Words::number)?,
-            signal: words.part(at + 5, Words::number)?,
+            satellite: words.number(at + ENTRY_SATELLITE)?,
+            elevation: words.option(at + ENTRY_ELEVATION)?,
+            azimuth: words.option(at + ENTRY_AZIMUTH)?,
+            signal: words.option(at + ENTRY_SIGNAL)?,
         })
     }
 }
 
 impl Gsv {
     pub(crate) fn of(words: &Words) -> Result<Self, Unfit> {
+        let mut entries = [None; ENTRIES];
+        for (i, entry) in entries.iter_mut().enumerate() {
+            *entry = words.part(GSV_ENTRIES + i * ENTRY_WORDS, Entry::of)?;
+        }
         Ok(Gsv {
-            talker: Talker::of(words, 1)?,
-            system: System::of(words, 3)?,
-            sentences: words.number(4)?,
-            number: words.number(5)?,
-            in_view: words.number(6)?,
-            entries: [
-                words.part(7, Entry::of)?,
-                words.part(15, Entry::of)?,
-                words.part(23, Entry::of)?,
-                words.part(31, Entry::of)?,
-            ],
+            talker: Talker::of(words, TALKER)?,
+            system: System::of(words, GSV_SYSTEM)?,
+            sentences: words.number(GSV_SENTENCES)?,
+            number: words.number(GSV_NUMBER)?,
+            in_view: words.number(GSV_VIEW)?,
+            entries,
         })
     }
 

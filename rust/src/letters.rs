@@ -56,7 +56,7 @@ impl<const N: usize> fmt::Display for Letters<N> {
     }
 }
 
-/// The name, as in `Other(GGA)`; quoted and escaped where it has more than letters and digits.
+/// The name, as in `UnknownTalker(ID)`; quoted and escaped where it has more than letters and digits.
 impl<const N: usize> fmt::Debug for Letters<N> {
     fn fmt(&self, f: &mut fmt::Formatter) -> fmt::Result {
         match self.0.iter().all(u8::is_ascii_alphanumeric) {

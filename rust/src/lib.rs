@@ -2,7 +2,7 @@
 //! their contracts.
 //!
 //! Any bytes may be given to any function here. A line is answered with a
-//! record, with the name of a known type that is not read, or with a numbered
+//! record, with talker and type where that is known and not read, or with a numbered
 //! refusal:
 //!
 //! ```
@@ -43,6 +43,7 @@ mod groups;
 mod gsa;
 mod gsv;
 mod log;
+mod places;
 mod reader;
 mod refusal;
 mod rmc;
@@ -62,7 +63,7 @@ pub use log::{walk, Totals};
 pub use reader::{ReadError, Reader, LONGEST_LINE};
 pub use refusal::Refusal;
 pub use rmc::{Mode, NavigationalStatus, Rmc, Status};
-pub use sentence::{read, refusal_number, Sentence};
+pub use sentence::{read, refusal_number, Other, Sentence};
 pub use system::System;
 pub use tally::{Answer, Kind, Line, Tally};
 pub use time::{Date, Time};

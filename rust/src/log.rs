@@ -1,6 +1,10 @@
 use std::{fmt, ops::AddAssign};
 
-use crate::{abi, Refusal};
+use crate::{
+    abi,
+    places::{TOTALS_ACCEPTED, TOTALS_BLANK, TOTALS_GROUPS, TOTALS_LINES, TOTALS_REFUSED},
+    Refusal,
+};
 
 /// What a log has.
 #[derive(Clone, Copy, Debug, Default, PartialEq, Eq, Hash)]
@@ -50,15 +54,14 @@ impl AddAssign for Totals {
 pub fn walk(log: &[u8]) -> Result<Totals, Refusal> {
     let mut words = [0; abi::TOTALS];
     // With room for all five, nothing but the length is refused.
-    if abi::walk(log, &mut words) != 0 {
+    if abi::walk(log, &mut words) != abi::DONE {
         return Err(Refusal::LogTooLong(log.len()));
     }
-    let [lines, blank, accepted, refused, groups] = words;
     Ok(Totals {
-        lines,
-        blank,
-        accepted,
-        refused,
-        groups,
+        lines: words[TOTALS_LINES],
+        blank: words[TOTALS_BLANK],
+        accepted: words[TOTALS_ACCEPTED],
+        refused: words[TOTALS_REFUSED],
+        groups: words[TOTALS_GROUPS],
     })
 }

@@ -1,6 +1,7 @@
 use std::{error::Error, fmt};
 
 use crate::{
+    places::{REFUSED_NUMBER, REFUSED_VALUES},
     words::{Unfit, Words},
     System, Talker, TypeName,
 };
@@ -94,30 +95,34 @@ impl Refusal {
     }
 
     pub(crate) fn of(words: &Words) -> Result<Self, Unfit> {
-        let refusal = match words.word(1)? {
+        const FIRST: usize = REFUSED_VALUES;
+        const SECOND: usize = REFUSED_VALUES + 1;
+        // Behind the first type's letters.
+        const SECOND_TYPE: usize = REFUSED_VALUES + 3;
+        let refusal = match words.word(REFUSED_NUMBER)? {
             1 => Refusal::BadUtf8,
             2 => Refusal::NotAscii,
-            3 => Refusal::TooLong(words.number(3)?),
+            3 => Refusal::TooLong(words.number(FIRST)?),
             4 => Refusal::Syntax,
             5 => Refusal::UnknownType,
             6 => Refusal::Checksum {
-                calculated: words.number(3)?,
-                found: words.number(4)?,
+                calculated: words.number(FIRST)?,
+                found: words.number(SECOND)?,
             },
-            7 => Refusal::UnknownTalker(Talker::of(words, 3)?),
+            7 => Refusal::UnknownTalker(Talker::of(words, FIRST)?),
             8 => Refusal::SystemMismatch {
-                talker: System::of(words, 3)?,
-                tail: System::of(words, 4)?,
+                talker: System::of(words, FIRST)?,
+                tail: System::of(words, SECOND)?,
             },
             9 => Refusal::Number,
             10 => Refusal::WrongHeader {
-                expected: TypeName::of(words, 3)?,
-                found: TypeName::of(words, 6)?,
+                expected: TypeName::of(words, FIRST)?,
+                found: TypeName::of(words, SECOND_TYPE)?,
             },
             11 => Refusal::BadTime,
-            12 => Refusal::LogTooLong(words.number(3)?),
-            13 => Refusal::BadPlace(words.number(3)?),
-            _ => return Err(words.unfit(1)),
+            12 => Refusal::LogTooLong(words.number(FIRST)?),
+            13 => Refusal::BadPlace(words.number(FIRST)?),
+            _ => return Err(words.unfit(REFUSED_NUMBER)),
         };
         Ok(refusal)
     }

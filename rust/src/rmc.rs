@@ -1,8 +1,12 @@
 use std::time::Duration;
 
 use crate::{
+    places::{
+        RMC_COURSE, RMC_DATE, RMC_MODE, RMC_NAVIGATION, RMC_POSITION, RMC_SPEED, RMC_STATUS,
+        RMC_TIME, RMC_VARIATION, TALKER,
+    },
     words::{Unfit, Words},
-    Date, Decimal, Position, Time,
+    Date, Decimal, Position, Talker, Time,
 };
 
 letters! {
@@ -72,6 +76,8 @@ letters! {
 #[derive(Clone, Copy, Debug, PartialEq)]
 #[non_exhaustive]
 pub struct Rmc {
+    /// Who sent it.
+    pub talker: Talker,
     /// When the fix was made.
     pub time: Option<Time>,
     /// Whether it holds.
@@ -95,15 +101,16 @@ pub struct Rmc {
 impl Rmc {
     pub(crate) fn of(words: &Words) -> Result<Self, Unfit> {
         Ok(Rmc {
-            time: words.part(1, Time::of)?,
-            status: Status::of(words, 6)?,
-            position: words.part(7, Position::of)?,
-            speed: words.part(16, Decimal::of)?,
-            course: words.part(21, Decimal::of)?,
-            date: words.part(26, Date::of)?,
-            variation: words.part(30, Decimal::of)?,
-            mode: words.unless_zero(35, Mode::of)?,
-            navigational_status: words.unless_zero(36, NavigationalStatus::of)?,
+            talker: Talker::of(words, TALKER)?,
+            time: words.part(RMC_TIME, Time::of)?,
+            status: Status::of(words, RMC_STATUS)?,
+            position: words.part(RMC_POSITION, |words, _| Position::of(words))?,
+            speed: words.part(RMC_SPEED, Decimal::of)?,
+            course: words.part(RMC_COURSE, Decimal::of)?,
+            date: words.part(RMC_DATE, Date::of)?,
+            variation: words.part(RMC_VARIATION, Decimal::of)?,
+            mode: words.unless_zero(RMC_MODE, Mode::of)?,
+            navigational_status: words.unless_zero(RMC_NAVIGATION, NavigationalStatus::of)?,
         })
     }
 

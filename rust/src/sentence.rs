@@ -1,7 +1,8 @@
 use crate::{
     abi::{self, WORDS},
+    places::{GSA, GSV, KIND, OTHER, OTHER_TYPE, REFUSED, RMC, TALKER},
     words::{proved, Unfit, Words},
-    Gsa, Gsv, Refusal, Rmc, TypeName,
+    Gsa, Gsv, Refusal, Rmc, Talker, TypeName,
 };
 
 /// What an accepted line says.
@@ -15,17 +16,46 @@ pub enum Sentence {
     /// A part of the list of satellites in view.
     Gsv(Gsv),
     /// A right sentence of a known type that is not read.
-    Other(TypeName),
+    Other(Other),
+}
+
+/// A right sentence of a known type that is not read.
+#[derive(Clone, Copy, Debug, PartialEq, Eq, Hash)]
+#[non_exhaustive]
+pub struct Other {
+    /// Who sent it.
+    pub talker: Talker,
+    /// Its type.
+    pub type_name: TypeName,
+}
+
+impl Other {
+    fn of(words: &Words) -> Result<Self, Unfit> {
+        Ok(Other {
+            talker: Talker::of(words, TALKER)?,
+            type_name: TypeName::of(words, OTHER_TYPE)?,
+        })
+    }
 }
 
 impl Sentence {
+    /// Who sent it.
+    pub fn talker(&self) -> Talker {
+        match self {
+            Sentence::Rmc(record) => record.talker,
+            Sentence::Gsa(record) => record.talker,
+            Sentence::Gsv(record) => record.talker,
+            Sentence::Other(other) => other.talker,
+        }
+    }
+
     /// Its type.
     pub fn type_name(&self) -> TypeName {
         match self {
             Sentence::Rmc(_) => TypeName::RMC,
             Sentence::Gsa(_) => TypeName::GSA,
             Sentence::Gsv(_) => TypeName::GSV,
-            Sentence::Other(name) => *name,
+            Sentence::Other(other) => other.type_name,
         }
     }
 }
@@ -39,7 +69,7 @@ impl Sentence {
 /// something else, and that is told by a panic.
 pub fn read(line: &[u8]) -> Result<Sentence, Refusal> {
     let mut words = [0; WORDS];
-    // It is 0 only for a buffer too short, and then word 0 is unfit.
+    // Undone it is only with a buffer too short, and then word 0 is unfit.
     abi::answer(line, &mut words);
     proved(answer(&Words(&words)))
 }
@@ -51,12 +81,12 @@ pub fn refusal_number(line: &[u8]) -> u32 {
 
 /// What the words of an answer say.
 pub(crate) fn answer(words: &Words) -> Result<Result<Sentence, Refusal>, Unfit> {
-    Ok(match words.word(0)? {
-        1 => Ok(Sentence::Rmc(Rmc::of(words)?)),
-        2 => Ok(Sentence::Gsa(Gsa::of(words)?)),
-        3 => Ok(Sentence::Gsv(Gsv::of(words)?)),
-        4 => Ok(Sentence::Other(TypeName::of(words, 1)?)),
-        5 => Err(Refusal::of(words)?),
-        _ => return Err(words.unfit(0)),
+    Ok(match words.word(KIND)? {
+        RMC => Ok(Sentence::Rmc(Rmc::of(words)?)),
+        GSA => Ok(Sentence::Gsa(Gsa::of(words)?)),
+        GSV => Ok(Sentence::Gsv(Gsv::of(words)?)),
+        OTHER => Ok(Sentence::Other(Other::of(words)?)),
+        REFUSED => Err(Refusal::of(words)?),
+        _ => return Err(words.unfit(KIND)),
     })
 }

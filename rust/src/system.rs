@@ -15,10 +15,10 @@ pub enum System {
     Galileo = 3,
     /// The system of China.
     BeiDou = 4,
-    /// The system of India.
-    NavIc = 5,
     /// The system of Japan.
-    Qzss = 6,
+    Qzss = 5,
+    /// The system of India.
+    NavIc = 6,
 }
 
 impl System {
@@ -28,11 +28,11 @@ impl System {
         System::Glonass,
         System::Galileo,
         System::BeiDou,
-        System::NavIc,
         System::Qzss,
+        System::NavIc,
     ];
 
-    /// The system's number: up to 4 those of a GSA sentence, above the ABI's own.
+    /// The system's number, as `docs/LISTS.md` has it; a GSA sentence knows the first four.
     pub fn number(self) -> u8 {
         self as u8
     }
@@ -44,8 +44,8 @@ impl System {
             System::Glonass => "GLONASS",
             System::Galileo => "Galileo",
             System::BeiDou => "BeiDou",
-            System::NavIc => "NavIC",
             System::Qzss => "QZSS",
+            System::NavIc => "NavIC",
         }
     }
 

@@ -1,7 +1,8 @@
 use std::fmt;
 
 use crate::{
-    abi::{self, COMPLETES, TABLE, WAITS, WORDS},
+    abi::{self, GROUP, NO_GSV, TABLE, WAITS, WORDS},
+    places::{GSA, GSV, GSV_NUMBER, GSV_SYSTEM, KIND, OTHER, REFUSED, RMC},
     sentence,
     words::{proved, Unfit, Words},
     Group, Refusal, Sentence, Totals,
@@ -106,7 +107,7 @@ impl Tally {
         self.totals.lines += 1;
         if bytes.is_empty() {
             self.totals.blank += 1;
-            return self.line(bytes, Kind::Blank, 0);
+            return self.line(bytes, Kind::Blank, NO_GSV);
         }
         let gathered = abi::gather(bytes, &mut self.words, &mut self.table);
         let kind = proved(self.kind());
@@ -117,7 +118,7 @@ impl Tally {
         if gathered >= WAITS {
             proved(self.place());
         }
-        self.totals.groups += u64::from(gathered >= COMPLETES);
+        self.totals.groups += u64::from(gathered >= GROUP);
         self.line(bytes, kind, gathered)
     }
 
@@ -133,23 +134,24 @@ impl Tally {
     /// What the answer is.
     fn kind(&self) -> Result<Kind, Unfit> {
         let words = Words(&self.words);
-        Ok(match words.word(0)? {
-            1 => Kind::Rmc,
-            2 => Kind::Gsa,
-            3 => Kind::Gsv,
-            4 => Kind::Other,
-            5 => Kind::Refused,
-            _ => return Err(words.unfit(0)),
+        Ok(match words.word(KIND)? {
+            RMC => Kind::Rmc,
+            GSA => Kind::Gsa,
+            GSV => Kind::Gsv,
+            OTHER => Kind::Other,
+            REFUSED => Kind::Refused,
+            _ => return Err(words.unfit(KIND)),
         })
     }
 
     /// Keeps the number of the line whose sentence is the last of its row's run.
     fn place(&mut self) -> Result<(), Unfit> {
         let words = Words(&self.words);
-        let (row, number): (usize, usize) = (words.number(3)?, words.number(5)?);
-        let row = self.lines.get_mut(row.wrapping_sub(1));
+        let system: usize = words.number(GSV_SYSTEM)?;
+        let number: usize = words.number(GSV_NUMBER)?;
+        let row = self.lines.get_mut(system.wrapping_sub(1));
         let place = row.and_then(|row| row.get_mut(number.wrapping_sub(1)));
-        *place.ok_or_else(|| words.unfit(5))? = self.totals.lines;
+        *place.ok_or_else(|| words.unfit(GSV_NUMBER))? = self.totals.lines;
         Ok(())
     }
 }
@@ -205,12 +207,12 @@ impl<'a> Line<'a> {
 
     /// Whether it completes a group. This costs nothing.
     pub fn has_group(&self) -> bool {
-        self.gathered >= COMPLETES
+        self.gathered >= GROUP
     }
 
     /// The group that it completes.
     pub fn group(&self) -> Option<Group> {
-        let row = self.gathered.checked_sub(COMPLETES)? as usize;
+        let row = self.gathered.checked_sub(GROUP)? as usize;
         let lines = self.tally.lines.get(row).map_or(&[][..], |row| row);
         Some(proved(Group::of(&self.tally.table, row, lines)))
     }

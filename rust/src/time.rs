@@ -1,6 +1,11 @@
 use std::fmt;
 
-use crate::words::{Unfit, Words};
+use crate::{
+    places::{
+        DATE_DAY, DATE_MONTH, DATE_YEAR, TIME_HOUR, TIME_MINUTE, TIME_NANOSECOND, TIME_SECOND,
+    },
+    words::{Unfit, Words},
+};
 
 /// A time of the day, UTC.
 #[derive(Clone, Copy, Debug, PartialEq, Eq, PartialOrd, Ord, Hash)]
@@ -29,10 +34,10 @@ pub struct Date {
 impl Time {
     pub(crate) fn of(words: &Words, at: usize) -> Result<Self, Unfit> {
         Ok(Time {
-            hour: words.number(at)?,
-            minute: words.number(at + 1)?,
-            second: words.number(at + 2)?,
-            nanosecond: words.number(at + 3)?,
+            hour: words.number(at + TIME_HOUR)?,
+            minute: words.number(at + TIME_MINUTE)?,
+            second: words.number(at + TIME_SECOND)?,
+            nanosecond: words.number(at + TIME_NANOSECOND)?,
         })
     }
 }
@@ -40,9 +45,9 @@ impl Time {
 impl Date {
     pub(crate) fn of(words: &Words, at: usize) -> Result<Self, Unfit> {
         Ok(Date {
-            year: words.number(at)?,
-            month: words.number(at + 1)?,
-            day: words.number(at + 2)?,
+            year: words.number(at + DATE_YEAR)?,
+            month: words.number(at + DATE_MONTH)?,
+            day: words.number(at + DATE_DAY)?,
         })
     }
 

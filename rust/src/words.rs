@@ -2,6 +2,8 @@
 
 use std::fmt;
 
+use crate::places::OPTION_NUMBER;
+
 /// The words of one answer, or of one row.
 pub(crate) struct Words<'a>(pub(crate) &'a [u64]);
 
@@ -41,16 +43,21 @@ impl Words<'_> {
         }
     }
 
-    /// A part whose words follow a 1, or absent after a 0.
+    /// A part that has a 1 at its place; absent where that is 0.
     pub(crate) fn part<T>(
         &self,
         at: usize,
         read: impl FnOnce(&Self, usize) -> Result<T, Unfit>,
     ) -> Result<Option<T>, Unfit> {
         match self.flag(at)? {
-            true => read(self, at + 1).map(Some),
+            true => read(self, at).map(Some),
             false => Ok(None),
         }
+    }
+
+    /// Such a part that is a number.
+    pub(crate) fn option<T: TryFrom<u64>>(&self, at: usize) -> Result<Option<T>, Unfit> {
+        self.part(at, |words, at| words.number(at + OPTION_NUMBER))
     }
 
     /// What has no such flag, and is absent where its word is 0.
@@ -104,7 +111,7 @@ mod tests {
     #[test]
     fn parts_that_are_absent() {
         let words = Words(&[0; WORDS]);
-        assert!(matches!(words.part(1, Words::number::<u8>), Ok(None)));
+        assert!(matches!(words.option::<u8>(1), Ok(None)));
         assert!(matches!(
             words.unless_zero(1, Words::number::<u8>),
             Ok(None)

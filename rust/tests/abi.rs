@@ -4,13 +4,14 @@ mod common;
 
 use common::{with_checksum, worked_log, GSV_1, GSV_2, GSV_3};
 use proved_nmea::abi::{
-    answer, fresh, gather, row, walk, COMPLETES, ROW, ROW_WORDS, TABLE, TOTALS, WAITS, WORDS,
+    answer, fresh, gather, row, walk, DONE, GROUP, NO_GSV, NO_RUN, ROW, ROWS, ROW_WORDS, TABLE,
+    TOTALS, UNDONE, WAITS, WORDS,
 };
 
 #[test]
 fn words_after_the_answer_stay() {
     let mut words = [7; WORDS + 2];
-    assert_eq!(answer(GSV_1.as_bytes(), &mut words), 1);
+    assert_eq!(answer(GSV_1.as_bytes(), &mut words), DONE);
     assert_eq!(words[0], 3);
     assert_eq!(words[WORDS - 1..], [0, 7, 7]);
 }
@@ -18,38 +19,56 @@ fn words_after_the_answer_stay() {
 #[test]
 fn too_few_words_are_left_alone() {
     let mut words = [7; WORDS - 1];
-    assert_eq!(answer(GSV_1.as_bytes(), &mut words), 0);
+    assert_eq!(answer(GSV_1.as_bytes(), &mut words), UNDONE);
     assert_eq!(words, [7; WORDS - 1]);
-    assert_eq!(answer(b"", &mut []), 0);
+    assert_eq!(answer(b"", &mut []), UNDONE);
 }
 
 #[test]
 fn totals() {
     let log = worked_log("\n");
     let mut totals = [7; TOTALS + 1];
-    assert_eq!(walk(log.as_bytes(), &mut totals), 0);
+    assert_eq!(walk(log.as_bytes(), &mut totals), DONE);
     assert_eq!(totals, [5, 1, 3, 1, 1, 7]);
     let mut short = [7; TOTALS - 1];
-    assert_eq!(walk(log.as_bytes(), &mut short), 255);
+    assert_eq!(walk(log.as_bytes(), &mut short), UNDONE);
     assert_eq!(short, [7; TOTALS - 1]);
     let mut totals = [7; TOTALS];
     assert_eq!(walk(&[b'x'; 65_537], &mut totals), 12);
     assert_eq!(totals, [7; TOTALS]);
 }
 
+/// Lengths and answers are those that C has.
 #[test]
-fn the_lengths_that_the_library_has() {
-    assert_eq!((WORDS, TABLE, ROW, ROW_WORDS), (40, 888, 148, 293));
+fn the_header_has_the_same_constants() {
+    let header = include_str!("../../include/nmea.h");
+    for (name, number) in [
+        ("WORDS", WORDS),
+        ("TOTALS", TOTALS),
+        ("TABLE", TABLE),
+        ("ROWS", ROWS),
+        ("ROW", ROW),
+        ("ROW_WORDS", ROW_WORDS),
+        ("DONE", DONE as usize),
+        ("UNDONE", UNDONE as usize),
+        ("NO_GSV", NO_GSV as usize),
+        ("NO_RUN", NO_RUN as usize),
+        ("WAITS", WAITS as usize),
+        ("GROUP", GROUP as usize),
+    ] {
+        let define = format!("#define NMEA_{name} {number}");
+        assert!(header.lines().any(|line| line == define), "{define}");
+    }
 }
 
 #[test]
 fn a_fresh_table() {
     let mut table = [7; TABLE];
-    assert_eq!(fresh(&mut table), 1);
+    assert_eq!(fresh(&mut table), DONE);
     assert_eq!(table, [0; TABLE]);
     for length in [0, TABLE - 1, TABLE + 1] {
         let mut other = vec![7; length];
-        assert_eq!(fresh(&mut other), 0);
+        assert_eq!(fresh(&mut other), UNDONE);
         assert_eq!(other, vec![7; length]);
     }
 }
@@ -69,20 +88,20 @@ fn lines_of_a_group() {
     assert_eq!(words[..WORDS], alone);
 
     let before = table;
-    assert_eq!(gather(b"$GPGSA,A,1,,,,*33", &mut words, &mut table), 1);
+    assert_eq!(gather(b"$GPGSA,A,1,,,,*33", &mut words, &mut table), NO_GSV);
     assert_eq!((words[0], words[1]), (5, 6));
-    assert_eq!(gather(b"$GPGSA,A,1,,,,*32", &mut words, &mut table), 1);
+    assert_eq!(gather(b"$GPGSA,A,1,,,,*32", &mut words, &mut table), NO_GSV);
     assert_eq!(table, before);
 
     assert_eq!(gather(GSV_2.as_bytes(), &mut words, &mut table), WAITS);
-    assert_eq!(gather(GSV_3.as_bytes(), &mut words, &mut table), COMPLETES);
+    assert_eq!(gather(GSV_3.as_bytes(), &mut words, &mut table), GROUP);
     assert_eq!(table[..4], [3, 0, 11, 11]);
-    assert_eq!(gather(GSV_3.as_bytes(), &mut words, &mut table), 2);
-    let qzss = with_checksum("QZGSV,1,1,00,");
-    assert_eq!(
-        gather(qzss.as_bytes(), &mut words, &mut table),
-        COMPLETES + 5
-    );
+    assert_eq!(gather(GSV_3.as_bytes(), &mut words, &mut table), NO_RUN);
+    for (body, row) in [("QZGSV,1,1,00,", 4), ("GIGSV,1,1,00,", 5)] {
+        let line = with_checksum(body);
+        let did = gather(line.as_bytes(), &mut words, &mut table);
+        assert_eq!(did, GROUP + row, "{line}");
+    }
 }
 
 #[test]
@@ -90,12 +109,9 @@ fn a_row_that_is_read() {
     let mut table = [0; TABLE];
     let mut words = [0; WORDS];
     let line = with_checksum("GLGSV,1,1,02,65,,,,66,1,,40");
-    assert_eq!(
-        gather(line.as_bytes(), &mut words, &mut table),
-        COMPLETES + 1
-    );
+    assert_eq!(gather(line.as_bytes(), &mut words, &mut table), GROUP + 1);
     let mut read = [7; ROW_WORDS + 1];
-    assert_eq!(row(&table, 1, &mut read), 1);
+    assert_eq!(row(&table, 1, &mut read), DONE);
     assert_eq!(read[..5], [2, 1, 0, 2, 2]);
     assert_eq!(read[5..13], [1, 65, 0, 0, 0, 0, 0, 0]);
     assert_eq!(read[13..21], [1, 66, 1, 1, 0, 0, 1, 40]);
@@ -113,7 +129,7 @@ fn what_is_too_short_is_left_alone() {
         (0, 0),
     ] {
         let (mut words, mut table) = (vec![7; count], vec![7; length]);
-        assert_eq!(gather(line, &mut words, &mut table), 0);
+        assert_eq!(gather(line, &mut words, &mut table), UNDONE);
         assert_eq!((words, table), (vec![7; count], vec![7; length]));
     }
     let mut over = [0; TABLE];
@@ -126,7 +142,7 @@ fn what_is_too_short_is_left_alone() {
         (&over, 0, ROW_WORDS),
     ] {
         let mut words = vec![7; count];
-        assert_eq!(row(table, at, &mut words), 0);
+        assert_eq!(row(table, at, &mut words), UNDONE);
         assert_eq!(words, vec![7; count]);
     }
 }

@@ -498,7 +498,7 @@ fn objects_of_each_kind() {
     let variation = decimal("-0.0", 0, 1, "-0.0");
     let rmc = format!(
         concat!(
-            r#","after_checksum":0,"date":"2024-02-29","time":"10:15:00.250000000","#,
+            r#","after_checksum":0,"talker":"GN","date":"2024-02-29","time":"10:15:00.250000000","#,
             r#""seconds":1709201700,"nanoseconds":250000000,"status":"A","#,
             r#""latitude":{{"billionths":3090500000000,"hemisphere":"N","degrees":51.50833333333333}},"#,
             r#""longitude":{{"billionths":-6000000000,"hemisphere":"W","degrees":-0.1}},"#,
@@ -507,7 +507,7 @@ fn objects_of_each_kind() {
         speed, course, variation
     );
     let bare = concat!(
-        r#","after_checksum":0,"date":null,"time":null,"seconds":null,"nanoseconds":null,"#,
+        r#","after_checksum":0,"talker":"GN","date":null,"time":null,"seconds":null,"nanoseconds":null,"#,
         r#""status":"V","latitude":null,"longitude":null,"speed":null,"course":null,"#,
         r#""variation":null,"mode":null,"navigational_status":null"#,
     );
@@ -535,7 +535,11 @@ fn objects_of_each_kind() {
         format!(
             r#"{{"kind":"group","file":"-","lines":[4],"system":"BeiDou","sentences":1,"in_view":2,{satellites}}}"#
         ),
-        line("other", 5, r#","after_checksum":0,"type":"TXT""#),
+        line(
+            "other",
+            5,
+            r#","after_checksum":0,"talker":"GP","type":"TXT""#,
+        ),
         line("blank", 6, ""),
         line(
             "refused",
@@ -557,7 +561,11 @@ fn objects_of_each_kind() {
             10,
             r#","refusal":3,"name":"TooLong","length":103"#,
         ),
-        line("other", 11, r#","after_checksum":9,"type":"TXT""#),
+        line(
+            "other",
+            11,
+            r#","after_checksum":9,"talker":"GP","type":"TXT""#,
+        ),
         r#"{"kind":"totals","file":"-","lines":11,"blank":1,"accepted":6,"refused":4,"groups":1}"#
             .into(),
     ];

@@ -49,9 +49,10 @@ fn entry(satellite: u32, elevation: u32, azimuth: u32, signal: u32) -> Option<En
 
 // Records may gain fields, and so are made by reading one and setting every field that there is.
 
-/// An RMC record with a status and nothing else.
-fn bare_rmc(status: Status) -> Rmc {
+/// An RMC record with a talker, a status and nothing else.
+fn bare_rmc(talker: &[u8; 2], status: Status) -> Rmc {
     let mut record = rmc(RMC);
+    record.talker = letters(talker);
     record.time = None;
     record.status = status;
     record.position = None;
@@ -151,7 +152,7 @@ fn gsa_without_satellites() {
 
 #[test]
 fn rmc_worked() {
-    let mut expected = bare_rmc(Status::Autonomous);
+    let mut expected = bare_rmc(b"GN", Status::Autonomous);
     expected.time = Some(Time {
         hour: 10,
         minute: 15,
@@ -189,15 +190,20 @@ fn records_as_text() {
     assert_eq!(gsv(GSV_1).talker.to_string(), "GP");
     assert_eq!(
         System::ALL.map(|system| system.to_string()).join(" "),
-        "GPS GLONASS Galileo BeiDou NavIC QZSS"
+        "GPS GLONASS Galileo BeiDou QZSS NavIC"
     );
+    let numbers = System::ALL.map(System::number);
+    assert_eq!(numbers, [1, 2, 3, 4, 5, 6]);
 }
 
 /// Names, and not the bytes that they have.
 #[test]
 fn records_for_debugging() {
     let text = |body: &str| format!("{:?}", read(with_checksum(body).as_bytes()));
-    assert_eq!(text("GPGGA,"), "Ok(Other(GGA))");
+    assert_eq!(
+        text("GPGGA,"),
+        "Ok(Other(Other { talker: GP, type_name: GGA }))"
+    );
     assert_eq!(text("IDGSV,"), "Err(UnknownTalker(ID))");
     assert_eq!(text(" \tGSV,"), "Err(UnknownTalker(\" \\t\"))");
     let list = text("GPGSV,1,1,00,");
@@ -211,13 +217,12 @@ fn names_as_text() {
     assert!(talker == "GP" && talker != "GL" && talker == *"GP");
     assert_eq!(letters(b"\0\x7F").as_str(), "\0\x7F");
     assert_eq!(Letters::new([b'G', 128]), None);
-    let types = [RMC, "$GPGSA,A,1,,,,*32", GSV_1, "$GPTXT,i*0A"].map(|line| {
-        read(line.as_bytes())
-            .expect("accepted")
-            .type_name()
-            .to_string()
+    let lines = [RMC, "$GPGSA,A,1,,,,*32", GSV_1, "$GPTXT,i*0A"];
+    let names = lines.map(|line| {
+        let sentence = read(line.as_bytes()).expect("accepted");
+        format!("{} {}", sentence.talker(), sentence.type_name())
     });
-    assert_eq!(types, ["RMC", "GSA", "GSV", "TXT"]);
+    assert_eq!(names, ["GN RMC", "GP GSA", "GP GSV", "GP TXT"]);
 }
 
 /// The whole number and the power of ten are exact, so that one division rounds once.
@@ -392,7 +397,7 @@ fn largest_numbers() {
     assert_eq!(record.dops.unwrap().pdop.to_string(), "0.000001");
 
     let line = with_checksum("GNRMC,235959.999999999,D,99999.999999999,S,255999.999999999,W,,,,,");
-    let mut expected = bare_rmc(Status::Differential);
+    let mut expected = bare_rmc(b"GN", Status::Differential);
     expected.time = Some(Time {
         hour: 23,
         minute: 59,
@@ -409,7 +414,7 @@ fn largest_numbers() {
 #[test]
 fn two_byte_numbers_with_a_plus() {
     let line = with_checksum("GPRMC,+5+607,A,+12,N,+123,E,,,+1+2+3,,");
-    let mut expected = bare_rmc(Status::Autonomous);
+    let mut expected = bare_rmc(b"GP", Status::Autonomous);
     expected.time = Some(Time {
         hour: 5,
         minute: 6,
@@ -452,7 +457,7 @@ fn variation() {
 fn lone_variation_letter() {
     // The comma at once means no variation; no comma follows, so `E,A` is the rest.
     let line = with_checksum("GPRMC,,V,,,,,,,,,E,A");
-    assert_eq!(rmc(&line), bare_rmc(Status::NotValid));
+    assert_eq!(rmc(&line), bare_rmc(b"GP", Status::NotValid));
 }
 
 #[test]
@@ -495,7 +500,10 @@ fn types_that_are_not_read_are_other() {
     assert_eq!(others.split_whitespace().count(), 27);
     for name in others.split_whitespace() {
         match read(with_checksum(&format!("GP{name},")).as_bytes()) {
-            Ok(Sentence::Other(found)) => assert_eq!(found.to_string(), name),
+            Ok(Sentence::Other(found)) => {
+                assert_eq!(found.talker, letters(b"GP"));
+                assert_eq!(found.type_name.as_str(), name);
+            }
             other => panic!("{name} is {other:?}"),
         }
     }
@@ -504,9 +512,9 @@ fn types_that_are_not_read_are_other() {
 #[test]
 fn checksum_bytes() {
     // `+A` reads as 10, `-` is no digit, and a digit is read in either case.
-    let text = Ok(Sentence::Other(letters(b"TXT")));
+    let text = read(b"$GPTXT,i*0A");
     assert_eq!(with_checksum("GPTXT,i"), "$GPTXT,i*0A");
-    assert_eq!(read(b"$GPTXT,i*0A"), text);
+    assert!(matches!(text, Ok(Sentence::Other(_))), "{text:?}");
     assert_eq!(read(b"$GPTXT,i*0a"), text);
     assert_eq!(read(b"$GPTXT,i*+A"), text);
     assert_eq!(read(b"$GPTXT,i*-A"), Err(Refusal::Syntax));

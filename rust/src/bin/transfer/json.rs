@@ -115,7 +115,10 @@ pub fn line(text: &mut String, file: &str, line: &Line) {
                     Sentence::Rmc(record) => rmc(object, record),
                     Sentence::Gsa(record) => gsa(object, record),
                     Sentence::Gsv(record) => gsv(object, record),
-                    _ => object.string("type", sentence.type_name()),
+                    _ => {
+                        object.string("talker", sentence.talker().as_str());
+                        object.string("type", sentence.type_name());
+                    }
                 }
             }
             Answer::Refused(why) => refusal(object, why),
@@ -125,6 +128,7 @@ pub fn line(text: &mut String, file: &str, line: &Line) {
 }
 
 fn rmc(object: &mut Object, record: &Rmc) {
+    object.string("talker", record.talker.as_str());
     object.string_or_null("date", record.date);
     object.string_or_null("time", record.time);
     let since = record.timestamp();

@@ -106,8 +106,8 @@ mod wrong {
     fn one_letter_is_printed_with_both_answers() {
         let report = report(|line| {
             let mut words = linked(line);
-            if words[0] == 1 && words[36] == b'V'.into() {
-                words[36] = b'S'.into();
+            if words[0] == 1 && words[38] == b'V'.into() {
+                words[38] = b'S'.into();
             }
             words
         });
@@ -131,8 +131,8 @@ mod wrong {
     fn one_bit() {
         let report = report(|line| {
             let mut words = linked(line);
-            if words[0] == 1 && words[18] % 1000 == 234 {
-                words[20] ^= 1;
+            if words[0] == 1 && words[20] % 1000 == 234 {
+                words[22] ^= 1;
             }
             words
         });

@@ -226,7 +226,8 @@ fn lines_of(log: &[u8]) -> impl Iterator<Item = &[u8]> {
 
 fn walk(log: &[u8]) -> [u64; abi::TOTALS] {
     let mut totals = [0; abi::TOTALS];
-    assert_eq!(abi::walk(log, &mut totals), 0, "the walk refused a log");
+    let did = abi::walk(log, &mut totals);
+    assert_eq!(did, abi::DONE, "the walk refused a log");
     totals
 }
 
@@ -240,8 +241,8 @@ fn gather(lines: &[&[u8]]) -> usize {
     for line in lines {
         let did = abi::gather(line, &mut words, &mut table);
         black_box(&words);
-        if let Some(number) = did.checked_sub(4) {
-            groups += abi::row(&table, number as usize, &mut row) as usize;
+        if let Some(number) = did.checked_sub(abi::GROUP) {
+            groups += usize::from(abi::row(&table, number as usize, &mut row) == abi::DONE);
             black_box(&row);
         }
     }

@@ -136,7 +136,7 @@ const PARTS: &str = "crates/words/specs/Part.antt";
 /// part stand in their order; how their names in the header begin; the place
 /// that they are counted from, if that has a name; and the rest of each name,
 /// `-` for a word without one.
-const IN_DEFINITIONS: [(&str, &str, &str, &str, &str); 9] = [
+const IN_DEFINITIONS: [(&str, &str, &str, &str, &str); 10] = [
     (
         PARTS,
         "timeWords (some t) = 1 ∷ t .hour ∷ t .minute ∷ t .second ∷ t .nanosecond ∷ []",
@@ -150,6 +150,13 @@ const IN_DEFINITIONS: [(&str, &str, &str, &str, &str); 9] = [
         "NMEA_DATE_",
         "",
         "- YEAR MONTH DAY",
+    ),
+    (
+        PARTS,
+        "signedWords z = sign z ∷ natAbs z ∷ []",
+        "NMEA_COORDINATE_",
+        "",
+        "SIGN SIZE",
     ),
     (
         PARTS,

@@ -58,11 +58,3 @@ pub dispatched : (p : Parts) {f f₀ : Code.Formatter} → formatter f ≡ forma
 unfolding dispatch
 dispatched p h e =
     ap (λ (f : Code.Formatter). readAs (formatter f) p) (sym e) ∙ ap (λ (f : Formatter). readAs f p) h
-
--- whether a record is accepted does not turn on the satellites beside it
-pub same-verdict : (xs ys : List ℕ) (r : Record) → verdictOf (recordOf xs r) ≡ verdictOf (recordOf ys r)
-same-verdict xs ys (Rmc r) = refl
-same-verdict xs ys (Gsa g) = refl
-same-verdict xs ys (Gsv g) = refl
-same-verdict xs ys (Other o) = refl
-same-verdict xs ys (Refused r) = refl

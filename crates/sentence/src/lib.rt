@@ -272,32 +272,67 @@ pub enum Verdict {
     Refused(Refusal),
 }
 
-fn verdict_of(answer: Record) -> Verdict
-    ensures { λ r. ⌜ verdict r ≡ verdictOf (recordOf [] answer) ⌝ }
+// The verdict on each type, as its reader answers: no record is made that would be thrown away.
+fn judge_rmc(s: &[u8], x: Sentence) -> Verdict
+    requires { ⌜ x .to ≤ length (now s) ⌝ }
+    ensures { λ r. ⌜ (verdict r ≡ verdictOf (rmcOf (parts (now (s .entry)) x))) × (now (s .exit) ≡ now (s .entry)) ⌝ }
 {
-    match answer {
-        Record::Rmc(_) => Verdict::Accepted,
-        Record::Gsa(_) => Verdict::Accepted,
-        Record::Gsv(_) => Verdict::Accepted,
-        Record::Other(_) => Verdict::Accepted,
-        Record::Refused(why) => Verdict::Refused(why),
+    let data = x.data(s);
+    match rmc::do_parse_rmc(data) {
+        RmcRead::Syntax => Verdict::Refused(Refusal::Syntax),
+        RmcRead::Is(_) => Verdict::Accepted,
+        RmcRead::Number => Verdict::Refused(Refusal::Number),
+        RmcRead::BadTime => Verdict::Refused(Refusal::BadTime),
     }
 }
 
-// A framed sentence, by its type: its record is not handed on.
+fn judge_gsa(s: &[u8], x: Sentence) -> Verdict
+    requires { ⌜ x .to ≤ length (now s) ⌝ }
+    ensures { λ r. ⌜ (verdict r ≡ verdictOf (gsaOf (parts (now (s .entry)) x))) × (now (s .exit) ≡ now (s .entry)) ⌝ }
+{
+    let talker = x.talker;
+    let data = x.data(s);
+    let read = gsa::do_parse_gsa(data);
+    let answer = read.answer;
+    match answer {
+        GsaAnswer::Syntax => Verdict::Refused(Refusal::Syntax),
+        GsaAnswer::Number => Verdict::Refused(Refusal::Number),
+        GsaAnswer::Is(head) => {
+            let tail = head.system;
+            match gsa::settle(talker.0, talker.1, tail) {
+                Settled::Absent => Verdict::Accepted,
+                Settled::Is(_) => Verdict::Accepted,
+                Settled::Mismatch(m, n) => Verdict::Refused(Refusal::SystemMismatch(m, n)),
+            }
+        }
+    }
+}
+
+fn judge_gsv(s: &[u8], x: Sentence) -> Verdict
+    requires { ⌜ x .to ≤ length (now s) ⌝ }
+    ensures { λ r. ⌜ (verdict r ≡ verdictOf (gsvOf (parts (now (s .entry)) x))) × (now (s .exit) ≡ now (s .entry)) ⌝ }
+{
+    let letters = x.talker;
+    let TalkerOf::Is(_) = gsv::talker_of(letters.0, letters.1) else {
+        return Verdict::Refused(Refusal::UnknownTalker(letters));
+    };
+    let data = x.data(s);
+    match gsv::do_parse_gsv(data) {
+        GsvRead::Syntax => Verdict::Refused(Refusal::Syntax),
+        GsvRead::Is(_) => Verdict::Accepted,
+    }
+}
+
+// A framed sentence, by its type.
 fn judged(s: &[u8], x: Sentence) -> Verdict
     requires { ⌜ x .to ≤ length (now s) ⌝ }
     ensures { λ r. ⌜ (verdict r ≡ verdictOf (dispatch (parts (now (s .entry)) x))) × (now (s .exit) ≡ now (s .entry)) ⌝ }
 {
     let kind = x.kind;
     match formatter_of(kind) {
-        Formatter::Rmc => verdict_of(rmc_of(s, x)),
-        Formatter::Gsa => {
-            let p = gsa_of(s, x);
-            let answer = p.answer;
-            verdict_of(answer)
-        }
-        Formatter::Gsv => verdict_of(gsv_of(s, x)),
+        Formatter::Rmc => judge_rmc(s, x),
+        Formatter::Gsa => judge_gsa(s, x),
+        Formatter::Gsv => judge_gsv(s, x),
         Formatter::Other => Verdict::Accepted,
     }
 }

@@ -2,7 +2,7 @@
 --
 --     0        3, which says GSV
 --     1, 2     talker
---     3        system: 1 GPS, 2 GLONASS, 3 Galileo, 4 BeiDou, 5 QZSS, 6 NavIC
+--     3        system, by its number (docs/LISTS.md)
 --     4        sentences of the group
 --     5        which of them this is
 --     6        satellites in view

@@ -7,7 +7,7 @@ use mathlib.Core.List.{List}
 use mathlib.Core.Option.{Option, none, some}
 use Rattle.text.specs.Reader.{Parse, miss, refuse, got, Reader, opt, orNone}
 use Rattle.text.proofs.Binds.{unbind, pure-is}
-use Rattle.gsv.specs.Gsv.{Gsv, countMax, counted, entry, gsv}
+use Rattle.gsv.specs.Gsv.{Gsv, entry, head, gsv}
 
 -- where a reader may match and does not, it does not match there again
 again : {A : Type 0} (r : Reader A) (l : List ℕ) {m n : List ℕ} {x o : Option A} → opt r l ≡ got x m → opt r m ≡ got o n → x ≡ none → o ≡ none
@@ -35,17 +35,15 @@ pub record AllAfter (g : Gsv) : Type 0 where
 pub all-after : (l : List ℕ) {g : Gsv} {m : List ℕ} → gsv l ≡ got g m → AllAfter g
 unfolding gsv
 all-after l {g} e =
-    let n = unbind (counted countMax) _ l e in
-    let k = unbind (counted countMax) _ (n .between) (n .then) in
-    let v = unbind (counted countMax) _ (k .between) (k .then) in
-    let a = unbind (opt entry) _ (v .between) (v .then) in
+    let h = unbind head _ l e in
+    let a = unbind (opt entry) _ (h .between) (h .then) in
     let b = unbind (opt entry) _ (a .between) (a .then) in
     let c = unbind (opt entry) _ (b .between) (b .then) in
     let d = unbind (opt entry) _ (c .between) (c .then) in
     let q = pure-is (d .then) .0 in
     subst AllAfter q
     (record {
-      second = again entry (v .between) (a .one) (b .one);
+      second = again entry (h .between) (a .one) (b .one);
       third = again entry (a .between) (b .one) (c .one);
       fourth = again entry (b .between) (c .one) (d .one);
     })

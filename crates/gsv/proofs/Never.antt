@@ -27,7 +27,7 @@ module _ {f : Fault} where
   unfolding cell
   never-cell max = never-bind (never-opt-number max) (λ n. never-bind never-comma (λ _. never-pure n))
 
-  opt-entry : Never f (opt entry)
+  pub opt-entry : Never f (opt entry)
   unfolding entry
   opt-entry =
       never-opt (never-bind (never-counted idMax)
@@ -38,7 +38,7 @@ module _ {f : Fault} where
 pub never-gsv : Faultless gsv
 unfolding gsv
 never-gsv f =
-    never-bind (never-counted countMax)
-    (λ c. never-bind (never-counted countMax)
-    (λ i. never-bind (never-counted countMax)
-    (λ v. never-bind opt-entry (λ x. never-bind opt-entry (λ y. never-bind opt-entry (λ z. never-bind opt-entry (λ w. never-pure _)))))))
+    never-bind
+    (never-bind (never-counted countMax)
+    (λ c. never-bind (never-counted countMax) (λ i. never-bind (never-counted countMax) (λ v. never-pure _))))
+    (λ h. never-bind opt-entry (λ x. never-bind opt-entry (λ y. never-bind opt-entry (λ z. never-bind opt-entry (λ w. never-pure _)))))

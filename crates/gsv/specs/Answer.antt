@@ -6,7 +6,7 @@ use Rattle.text.specs.Placed.{Placed, unread, upto}
 use Rattle.text.specs.Value.{Value, syntax, is}
 use Rattle.text.specs.Answer.{held}
 use Rattle.gsv.specs.Talker.{Talker, ga, gp, gl, bd, gb, gi, gq, pq, qz, System, gps, glonass, galileo, beidou, qzss, navic}
-use Rattle.gsv.specs.Gsv.{Satellite, Gsv, GsvSentence}
+use Rattle.gsv.specs.Gsv.{Satellite, Head, Gsv, GsvSentence}
 use Rattle.gsv.specs.declared.GsvTalker.{GsvTalker}
 use Rattle.gsv.specs.declared.GsvTalker.the-variants.{Ga, Gp, Gl, Bd, Gb, Gi, Gq, Pq, Qz}
 use Rattle.gsv.specs.declared.Letters.{Letters}
@@ -22,6 +22,9 @@ use Rattle.gsv.specs.declared.EntryAt.the-variants.{No as NoEntry, Is as
 use Rattle.gsv.specs.declared.Slot.{Slot}
 use Rattle.gsv.specs.declared.Slot.the-variants.{Empty, Seen}
 use Rattle.gsv.specs.declared.SlotAt.{SlotAt}
+use Rattle.gsv.specs.declared.GsvHead.{GsvHead}
+use Rattle.gsv.specs.declared.HeadAt.{HeadAt}
+use Rattle.gsv.specs.declared.HeadAt.the-variants.{No as NoHead, Is as AHead}
 use Rattle.gsv.specs.declared.GsvData.{GsvData}
 use Rattle.gsv.specs.declared.GsvRecord.{GsvRecord}
 use Rattle.gsv.specs.declared.GsvRead.{GsvRead}
@@ -71,6 +74,13 @@ slot (Seen t) = some (satellite t)
 
 abbrev pub slotAt : SlotAt → Placed (Option Satellite)
 slotAt r = upto (slot (r .slot)) (r .at)
+
+abbrev pub headOf : GsvHead → Head
+headOf h = record { count = h .count; index = h .index; view = h .view }
+
+abbrev pub headAt : HeadAt → Placed Head
+headAt NoHead = unread
+headAt (AHead h p) = upto (headOf h) p
 
 abbrev pub gsvData : GsvData → Gsv
 gsvData g =

@@ -73,17 +73,33 @@ pub record Gsv : Type 0 where
   pub third : Option Satellite
   pub fourth : Option Satellite
 
--- do_parse_gsv; an entry that does not match is absent and eats nothing, and so are all after it, which find the same text
-unfoldable pub gsv : Reader Gsv
-gsv = do
+-- what stands in front of the entries
+pub record Head : Type 0 where
+  pub count : ℕ
+  pub index : ℕ
+  pub view : ℕ
+
+abbrev pub head : Reader Head
+head = do
   count ← counted countMax
   index ← counted countMax
   view ← counted countMax
+  pure (record { count = count; index = index; view = view })
+
+-- an entry that does not match is absent and eats nothing, and so are all after it, which find the same text
+abbrev pub withEntries : Head → Reader Gsv
+withEntries h = do
   first ← opt entry
   second ← opt entry
   third ← opt entry
   fourth ← opt entry
-  pure (record { count = count; index = index; view = view; first = first; second = second; third = third; fourth = fourth })
+  pure (record { count = h .count; index = h .index; view = h .view; first = first; second = second; third = third; fourth = fourth })
+
+-- do_parse_gsv
+unfoldable pub gsv : Reader Gsv
+gsv = do
+  h ← head
+  withEntries h
 
 abbrev pub keep : Option Satellite → List Satellite → List Satellite
 keep none es = es

@@ -1,14 +1,15 @@
 // GSV, satellites in view: its talkers with their systems, and the reader of its data.
 // The data: sentences of the group, which of them this is, satellites in view, and four entries.
 ghost use mathlib.Core.Path.{_≡_};
+ghost use lib.ListN.{drop};
 ghost use Rattle.text.specs.Bytes.{byte};
 ghost use Rattle.text.specs.Reader.{opt};
 ghost use Rattle.text.specs.Placed.{Reads};
-ghost use Rattle.text.specs.Value.{value};
+ghost use Rattle.text.specs.Value.{is, value};
 ghost use Rattle.text.specs.Answer.{wholeAt, next};
 ghost use Rattle.gsv.specs.Talker.{talkerOf, lettersOf, systemOf, systemNumber};
-ghost use Rattle.gsv.specs.Gsv.{closing, counted, cell, entry, gsv};
-ghost use Rattle.gsv.specs.Answer.{talker, talkerRead, letters, gnss, inCell, entryAt, slotAt, gsvRead};
+ghost use Rattle.gsv.specs.Gsv.{closing, counted, cell, entry, head, withEntries, gsv};
+ghost use Rattle.gsv.specs.Answer.{talker, talkerRead, letters, gnss, inCell, entryAt, slotAt, headOf, headAt, gsvData, gsvRead};
 use text::Held;
 use text::Next;
 use text::Whole;
@@ -266,6 +267,42 @@ fn opt_entry(s: &[u8], at: usize) -> SlotAt
     }
 }
 
+// Sentences of the group, which of them this is, and satellites in view: what stands in front of the entries.
+pub struct GsvHead {
+    pub count: u32,
+    pub index: u32,
+    pub view: u32,
+}
+
+// A head and the place of the first entry, or no match.
+pub enum HeadAt {
+    No,
+    Is(GsvHead, usize),
+}
+
+// What stands in front of the entries. No entry makes a sentence fail, so it alone decides whether one is accepted.
+pub fn do_parse_head(s: &[u8]) -> HeadAt
+    ensures { λ r. ⌜ Reads (now (s .entry)) 0 head (headAt r) × (now (s .exit) ≡ now (s .entry)) ⌝ }
+{
+    let Whole::Is(count, at) = counted(s, 0, COUNT_MAX) else {
+        return HeadAt::No;
+    };
+    let Whole::Is(index, at) = counted(s, at, COUNT_MAX) else {
+        return HeadAt::No;
+    };
+    let Whole::Is(view, at) = counted(s, at, COUNT_MAX) else {
+        return HeadAt::No;
+    };
+    HeadAt::Is(
+        GsvHead {
+            count: count,
+            index: index,
+            view: view,
+        },
+        at,
+    )
+}
+
 // The data of a GSV sentence.
 pub struct GsvData {
     pub count: u32,
@@ -277,25 +314,10 @@ pub struct GsvData {
     pub fourth: Slot,
 }
 
-// The data, or the refusal Syntax.
-pub enum GsvRead {
-    Syntax,
-    Is(GsvData),
-}
-
-// The whole data of a GSV sentence; what follows the fourth entry is ignored.
-pub fn do_parse_gsv(s: &[u8]) -> GsvRead
-    ensures { λ r. ⌜ (gsvRead r ≡ value (gsv (now (s .entry)))) × (now (s .exit) ≡ now (s .entry)) ⌝ }
+// A head with the entries that stand at a place; what follows the fourth is ignored.
+pub fn with_entries(s: &[u8], at: usize, h: GsvHead) -> GsvData
+    ensures { λ r. ⌜ (is (gsvData r) ≡ value (withEntries (headOf h) (drop at (now (s .entry))))) × (now (s .exit) ≡ now (s .entry)) ⌝ }
 {
-    let Whole::Is(count, at) = counted(s, 0, COUNT_MAX) else {
-        return GsvRead::Syntax;
-    };
-    let Whole::Is(index, at) = counted(s, at, COUNT_MAX) else {
-        return GsvRead::Syntax;
-    };
-    let Whole::Is(view, at) = counted(s, at, COUNT_MAX) else {
-        return GsvRead::Syntax;
-    };
     let r1 = opt_entry(s, at);
     let at = r1.at;
     let r2 = opt_entry(s, at);
@@ -307,15 +329,31 @@ pub fn do_parse_gsv(s: &[u8]) -> GsvRead
     let second = r2.slot;
     let third = r3.slot;
     let fourth = r4.slot;
-    GsvRead::Is(GsvData {
-        count: count,
-        index: index,
-        view: view,
+    GsvData {
+        count: h.count,
+        index: h.index,
+        view: h.view,
         first: first,
         second: second,
         third: third,
         fourth: fourth,
-    })
+    }
+}
+
+// The data, or the refusal Syntax.
+pub enum GsvRead {
+    Syntax,
+    Is(GsvData),
+}
+
+// The whole data of a GSV sentence.
+pub fn do_parse_gsv(s: &[u8]) -> GsvRead
+    ensures { λ r. ⌜ (gsvRead r ≡ value (gsv (now (s .entry)))) × (now (s .exit) ≡ now (s .entry)) ⌝ }
+{
+    match do_parse_head(s) {
+        HeadAt::No => GsvRead::Syntax,
+        HeadAt::Is(h, at) => GsvRead::Is(with_entries(s, at, h)),
+    }
 }
 
 // A GSV sentence: one of its talkers, and the data.

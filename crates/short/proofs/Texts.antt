@@ -10,7 +10,8 @@ use lib.Seq.{drop-drop}
 use Rattle.text.specs.Bytes.{byte}
 use Rattle.text.specs.Reader.{miss, got, _>>=_, pure, opt, char}
 use Rattle.text.specs.Number.{leadingDigits, number}
-use Rattle.gsv.specs.Gsv.{Satellite, Gsv, closing, counted, cell, entry, gsv, keep, present}
+use Rattle.gsv.specs.Gsv.{Satellite, Head, Gsv, closing, counted, cell, entry, head, withEntries, gsv, keep, present}
+use Rattle.gsv.proofs.Heads.{made}
 use Rattle.short.specs.Digits.{digitsOf}
 use Rattle.short.specs.Texts.{optText, entryText, entriesText, dataText, Upto, Readable, AllReadable, firstOf, bodyOf}
 use Rattle.short.proofs.Digits.{reads-back, number-eats}
@@ -70,9 +71,8 @@ pub gsv-back : (n k v : ℕ) (es : List Satellite) → n ≤ 65535 → k ≤ 655
     → gsv (dataText n k v es) ≡ got (bodyOf n k v es) (entriesText (drop 4 es))
 unfolding gsv dataText pure
 gsv-back n k v es hn hk hv h =
-    bind-got _ _ _ (counted-back 65535 n _ hn)
-    ∙ bind-got _ _ _ (counted-back 65535 k _ hk)
-    ∙ bind-got _ _ _ (counted-back 65535 v _ hv)
+    bind-got head withEntries _
+    (bind-got _ _ _ (counted-back 65535 n _ hn) ∙ bind-got _ _ _ (counted-back 65535 k _ hk) ∙ bind-got _ _ _ (counted-back 65535 v _ hv))
     ∙ bind-got _ _ _ (next-back 0 es h)
     ∙ bind-got _ _ _ (next-back 1 es h)
     ∙ bind-got _ _ _ (next-back 2 es h)
@@ -175,22 +175,40 @@ pub data-length : (n k v : ℕ) (es : List Satellite)
 unfolding dataText
 data-length n k v es = simp length-append (omega arith)
 
-sum : (a b c d l x y z : ℕ) → a + 1 + x ≤ l → b + 1 + y ≤ x → c + 1 + z ≤ y → d ≤ z → 3 + a + b + c + d ≤ l
-sum a b c d l x y z h i j k = omega arith
+-- the numbers in front of the entries
+record HeadEaten (l : List ℕ) (h : Head) (m : List ℕ) : Type 0 where
+  pub count : h .count ≤ 65535
+  pub index : h .index ≤ 65535
+  pub view : h .view ≤ 65535
+  pub bytes : 3 + length (digitsOf (h .count)) + length (digitsOf (h .index)) + length (digitsOf (h .view)) + length m ≤ length l
 
--- four entries that may not match, whatever is made of them
-record FourRead (mk : (a b c d : Option Satellite) → Gsv) (l : List ℕ) (r : Gsv) : Type 0 where
+three : (a b c l x y z : ℕ) → a + 1 + x ≤ l → b + 1 + y ≤ x → c + 1 + z ≤ y → 3 + a + b + c + z ≤ l
+three a b c l x y z h i j = omega arith
+
+numbers-eat : (l : List ℕ) {h : Head} {m : List ℕ} → head l ≡ got h m → HeadEaten l h m
+numbers-eat l e =
+    let c = unbind (counted 65535) _ l e in
+    let i = unbind (counted 65535) _ (c .between) (c .then) in
+    let v = unbind (counted 65535) _ (i .between) (i .then) in
+    let (x, y) = pure-is (v .then) in
+    let pc = counted-eats 65535 l (c .one) in
+    let pi = counted-eats 65535 (c .between) (i .one) in
+    let pv = counted-eats 65535 (i .between) (v .one) in
+    subst₂ (λ h m. HeadEaten l h m) x y
+    (record { count = pc .0; index = pi .0; view = pv .0; bytes = three _ _ _ _ _ _ _ (pc .1) (pi .1) (pv .1) })
+
+-- four entries that may not match, behind a head
+record FourRead (h : Head) (l : List ℕ) (r : Gsv) : Type 0 where
   pub a : Option Satellite
   pub b : Option Satellite
   pub c : Option Satellite
   pub d : Option Satellite
-  pub made : mk a b c d ≡ r
+  pub is-made : made h a b c d ≡ r
   pub each : AllReadable (keep a (keep b (keep c (keep d []))))
   pub bytes : length (entriesText (keep a (keep b (keep c (keep d []))))) ≤ length l
 
-four-eats : (mk : (a b c d : Option Satellite) → Gsv) (l : List ℕ) {r : Gsv} {m : List ℕ}
-    → (opt entry >>= (λ a. opt entry >>= (λ b. opt entry >>= (λ c. opt entry >>= (λ d. pure (mk a b c d)))))) l ≡ got r m → FourRead mk l r
-four-eats mk l e =
+four-eats : (h : Head) (l : List ℕ) {r : Gsv} {m : List ℕ} → withEntries h l ≡ got r m → FourRead h l r
+four-eats h l e =
     let e₁ = unbind (opt entry) _ l e in
     let e₂ = unbind (opt entry) _ (e₁ .between) (e₁ .then) in
     let e₃ = unbind (opt entry) _ (e₂ .between) (e₂ .then) in
@@ -204,7 +222,7 @@ four-eats mk l e =
       b = e₂ .value;
       c = e₃ .value;
       d = e₄ .value;
-      made = pure-is (e₄ .then) .0;
+      is-made = pure-is (e₄ .then) .0;
       each = p₁ .0;
       bytes = p₁ .1;
     }
@@ -213,24 +231,16 @@ four-eats mk l e =
 pub gsv-eats : (l : List ℕ) {b : Gsv} {m : List ℕ} → gsv l ≡ got b m → Seen l b
 unfolding gsv
 gsv-eats l {b} {m} e =
-    let c = unbind (counted 65535) _ l e in
-    let i = unbind (counted 65535) _ (c .between) (c .then) in
-    let v = unbind (counted 65535) _ (i .between) (i .then) in
-    let mk : (a b c d : Option Satellite) → Gsv =
-    λ x y z t. record { count = c .value; index = i .value; view = v .value; first = x; second = y; third = z; fourth = t }
-    in
-    let f = four-eats mk (v .between) (v .then) in
-    let pc = counted-eats 65535 l (c .one) in
-    let pi = counted-eats 65535 (c .between) (i .one) in
-    let pv = counted-eats 65535 (i .between) (v .one) in
-    let t : Gsv = mk (f .a) (f .b) (f .c) (f .d) in
-    let r : Seen l t =
+    let h = unbind head withEntries l e in
+    let p = numbers-eat l (h .one) in
+    let f = four-eats (h .value) (h .between) (h .then) in
+    let r : Seen l (made (h .value) (f .a) (f .b) (f .c) (f .d)) =
     record {
-      count = pc .0;
-      index = pi .0;
-      view = pv .0;
+      count = p .count;
+      index = p .index;
+      view = p .view;
       each = f .each;
-      bytes = rw data-length (sum _ _ _ _ _ _ _ _ (pc .1) (pi .1) (pv .1) (f .bytes));
+      bytes = rw data-length (omega (arith, p .bytes, f .bytes));
     }
     in
-    subst (λ b. Seen l b) (f .made) r
+    subst (λ b. Seen l b) (f .is-made) r

@@ -452,3 +452,16 @@ pub fn settle(a: u8, b: u8, tail: System) -> Settled
         Settled::Mismatch(m, n)
     }
 }
+
+// A record whose system is settled.
+pub fn with_system(head: GsaHead, system: System) -> GsaHead
+    ensures { λ r. ⌜ r ≡ record { mode = head .mode; fix = head .fix; dops = head .dops; system = system } ⌝ }
+{
+    let dops = head.dops;
+    GsaHead {
+        mode: head.mode,
+        fix: head.fix,
+        dops: dops,
+        system: system,
+    }
+}

@@ -18,7 +18,7 @@ use Rattle.frame.specs.declared.sentence.Sentence.{Sentence}
 use Rattle.frame.specs.declared.parse.Framed.{Framed}
 use Rattle.frame.specs.declared.parse.Framed.the-variants.{Is as Accepted, Refused as NotAccepted}
 use Rattle.frame.proofs.Within.{within}
-use Rattle.answer.specs.Sentence.{Answer, isRefused, orRefused, framedBy, Formatter, formatterOf, readAs, dispatch, ofType, verdictOf}
+use Rattle.answer.specs.Sentence.{Answer, isRefused, orRefused, framedBy, Formatter, formatterOf, readAs, dispatch, ofType}
 use Rattle.sentence.specs.Answer.{formatter, recordOf}
 use Rattle.sentence.specs.declared.Formatter as Code
 use Rattle.sentence.specs.declared.Record.{Record}

@@ -2,9 +2,7 @@
 use Prim.Native.Nat.{ℕ}
 use mathlib.Core.Path.{_≡_}
 use mathlib.Core.List.{List, []}
-use mathlib.Core.Option.{Option, none, some}
 use lib.ListN.{length, take}
-use Rattle.frame.specs.Refused.{Refused}
 use Rattle.frame.specs.Answer.{talkerBytes, letters, refused}
 use Rattle.gsv.specs.Answer.{gsvSentence}
 use Rattle.gsa.specs.Answer.{gsaOf as gsaData, row}
@@ -18,8 +16,6 @@ use Rattle.sentence.specs.declared.Record.the-variants.{Rmc as ARmc, Gsa
 use Rattle.sentence.specs.declared.ParseResult.{ParseResult}
 use Rattle.sentence.specs.declared.Formatter as Code
 use Rattle.sentence.specs.declared.Formatter.the-variants.{Rmc, Gsa, Gsv, Other}
-use Rattle.sentence.specs.declared.Verdict.{Verdict}
-use Rattle.sentence.specs.declared.Verdict.the-variants.{Accepted, Refused as AVerdict}
 
 abbrev pub formatter : Code.Formatter → Formatter
 formatter Rmc = rmcType
@@ -61,7 +57,3 @@ pub record Beside (a : Answer) (cells : List ℕ) (count : ℕ) : Type 0 where
 pub record Says (a : Answer) (r : ParseResult) : Type 0 where
   pub says : recordOf (take (r .count) (r .satellites)) (r .answer) ≡ a
   pub beside : Beside a (r .satellites) (r .count)
-
-abbrev pub verdict : Verdict → Option Refused
-verdict Accepted = none
-verdict (AVerdict r) = some (refused r)

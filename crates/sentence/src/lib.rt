@@ -6,8 +6,8 @@ ghost use lib.ListN.{length};
 ghost use Rattle.text.specs.Bytes.{bytes};
 ghost use Rattle.frame.specs.Types.{alike};
 ghost use Rattle.frame.specs.Answer.{letters, parts, refused};
-ghost use Rattle.answer.specs.Sentence.{isRefused, rmcOf, gsaOf, gsvOf, formatterOf, dispatch, answer, parseAs, verdictOf};
-ghost use Rattle.sentence.specs.Answer.{formatter, recordOf, Says, verdict};
+ghost use Rattle.answer.specs.Sentence.{isRefused, rmcOf, gsaOf, gsvOf, formatterOf, dispatch, answer, parseAs};
+ghost use Rattle.sentence.specs.Answer.{formatter, recordOf, Says};
 ghost use Rattle.sentence.specs.Code.{alone};
 use frame::Framed;
 use frame::Kind;
@@ -110,22 +110,6 @@ fn gsv_of(s: &[u8], x: Sentence) -> Record
     }
 }
 
-// A record with its system settled.
-fn with_system(talker: Talker, head: GsaHead, system: System) -> GsaRecord
-    ensures { λ r. ⌜ r ≡ record { talker = talker; head = record { mode = head .mode; fix = head .fix; dops = head .dops; system = system } } ⌝ }
-{
-    let dops = head.dops;
-    GsaRecord {
-        talker: talker,
-        head: GsaHead {
-            mode: head.mode,
-            fix: head.fix,
-            dops: dops,
-            system: system,
-        },
-    }
-}
-
 fn gsa_of(s: &[u8], x: Sentence) -> ParseResult
     requires { ⌜ x .to ≤ length (now s) ⌝ }
     ensures { λ r. ⌜ Says (gsaOf (parts (now (s .entry)) x)) r × (now (s .exit) ≡ now (s .entry)) ⌝ }
@@ -143,17 +127,17 @@ fn gsa_of(s: &[u8], x: Sentence) -> ParseResult
             let tail = head.system;
             match gsa::settle(talker.0, talker.1, tail) {
                 Settled::Absent => {
-                    let g = with_system(talker, head, System::Absent);
+                    let head = gsa::with_system(head, System::Absent);
                     ParseResult {
-                        answer: Record::Gsa(g),
+                        answer: Record::Gsa(GsaRecord { talker, head }),
                         satellites: satellites,
                         count: count,
                     }
                 }
                 Settled::Is(n) => {
-                    let g = with_system(talker, head, System::Is(n));
+                    let head = gsa::with_system(head, System::Is(n));
                     ParseResult {
-                        answer: Record::Gsa(g),
+                        answer: Record::Gsa(GsaRecord { talker, head }),
                         satellites: satellites,
                         count: count,
                     }
@@ -178,14 +162,14 @@ fn same(a: Kind, b: Kind) -> bool
 }
 
 // The types that we read, and the others.
-enum Formatter {
+pub enum Formatter {
     Rmc,
     Gsa,
     Gsv,
     Other,
 }
 
-fn formatter_of(kind: Kind) -> Formatter
+pub fn formatter_of(kind: Kind) -> Formatter
     ensures { λ r. ⌜ formatter r ≡ formatterOf (letters kind) ⌝ }
 {
     if same(kind, RMC) {
@@ -264,85 +248,4 @@ pub fn parse_gsv(line: &[u8]) -> ParseResult
     ensures { λ r. ⌜ Says (parseAs (bytes "GSV") (now (line .entry))) r × (now (line .exit) ≡ now (line .entry)) ⌝ }
 {
     parse_as(line, GSV)
-}
-
-// A line's answer in brief, for one who counts lines: its refusal, or that it is accepted.
-pub enum Verdict {
-    Accepted,
-    Refused(Refusal),
-}
-
-// The verdict on each type, as its reader answers: no record is made that would be thrown away.
-fn judge_rmc(s: &[u8], x: Sentence) -> Verdict
-    requires { ⌜ x .to ≤ length (now s) ⌝ }
-    ensures { λ r. ⌜ (verdict r ≡ verdictOf (rmcOf (parts (now (s .entry)) x))) × (now (s .exit) ≡ now (s .entry)) ⌝ }
-{
-    let data = x.data(s);
-    match rmc::do_parse_rmc(data) {
-        RmcRead::Syntax => Verdict::Refused(Refusal::Syntax),
-        RmcRead::Is(_) => Verdict::Accepted,
-        RmcRead::Number => Verdict::Refused(Refusal::Number),
-        RmcRead::BadTime => Verdict::Refused(Refusal::BadTime),
-    }
-}
-
-fn judge_gsa(s: &[u8], x: Sentence) -> Verdict
-    requires { ⌜ x .to ≤ length (now s) ⌝ }
-    ensures { λ r. ⌜ (verdict r ≡ verdictOf (gsaOf (parts (now (s .entry)) x))) × (now (s .exit) ≡ now (s .entry)) ⌝ }
-{
-    let talker = x.talker;
-    let data = x.data(s);
-    let read = gsa::do_parse_gsa(data);
-    let answer = read.answer;
-    match answer {
-        GsaAnswer::Syntax => Verdict::Refused(Refusal::Syntax),
-        GsaAnswer::Number => Verdict::Refused(Refusal::Number),
-        GsaAnswer::Is(head) => {
-            let tail = head.system;
-            match gsa::settle(talker.0, talker.1, tail) {
-                Settled::Absent => Verdict::Accepted,
-                Settled::Is(_) => Verdict::Accepted,
-                Settled::Mismatch(m, n) => Verdict::Refused(Refusal::SystemMismatch(m, n)),
-            }
-        }
-    }
-}
-
-fn judge_gsv(s: &[u8], x: Sentence) -> Verdict
-    requires { ⌜ x .to ≤ length (now s) ⌝ }
-    ensures { λ r. ⌜ (verdict r ≡ verdictOf (gsvOf (parts (now (s .entry)) x))) × (now (s .exit) ≡ now (s .entry)) ⌝ }
-{
-    let letters = x.talker;
-    let TalkerOf::Is(_) = gsv::talker_of(letters.0, letters.1) else {
-        return Verdict::Refused(Refusal::UnknownTalker(letters));
-    };
-    let data = x.data(s);
-    match gsv::do_parse_gsv(data) {
-        GsvRead::Syntax => Verdict::Refused(Refusal::Syntax),
-        GsvRead::Is(_) => Verdict::Accepted,
-    }
-}
-
-// A framed sentence, by its type.
-fn judged(s: &[u8], x: Sentence) -> Verdict
-    requires { ⌜ x .to ≤ length (now s) ⌝ }
-    ensures { λ r. ⌜ (verdict r ≡ verdictOf (dispatch (parts (now (s .entry)) x))) × (now (s .exit) ≡ now (s .entry)) ⌝ }
-{
-    let kind = x.kind;
-    match formatter_of(kind) {
-        Formatter::Rmc => judge_rmc(s, x),
-        Formatter::Gsa => judge_gsa(s, x),
-        Formatter::Gsv => judge_gsv(s, x),
-        Formatter::Other => Verdict::Accepted,
-    }
-}
-
-// Whether any byte string is accepted.
-pub fn judge(line: &[u8]) -> Verdict
-    ensures { λ r. ⌜ (verdict r ≡ verdictOf (answer (now (line .entry)))) × (now (line .exit) ≡ now (line .entry)) ⌝ }
-{
-    match frame::parse_nmea_sentence(line) {
-        Framed::Refused(why) => Verdict::Refused(why),
-        Framed::Is(x) => judged(line, x),
-    }
 }

@@ -5,10 +5,10 @@ use lib.ListN.{take}
 use Rattle.frame.specs.Answer.{talkerBytes, parts}
 use Rattle.gsa.specs.Answer.{said, settled, gsaOf as gsaData}
 use Rattle.gsa.specs.declared.GsaAnswer.{GsaAnswer}
+use Rattle.gsa.specs.declared.GsaHead.{GsaHead}
 use Rattle.gsa.specs.declared.Settled.{Settled}
 use Rattle.answer.specs.Sentence.{isGsa, orRefused, settledGsa, asGsa, gsaOf}
 use Rattle.sentence.specs.Answer.{gsaSentence, Says}
-use Rattle.sentence.specs.declared.GsaRecord.{GsaRecord}
 use Rattle.sentence.specs.declared.ParseResult.{ParseResult}
 use Rattle.sentence.specs.declared.Record.the-variants.{Gsa}
 use Rattle.sentence.proofs.Satellites.{alone-is, held, with-record, read-says, settled-says}
@@ -31,15 +31,16 @@ by-system c e =
     (c .before .before .answer .given .1) e (c .settle .ensures)
 
 -- a record is made of what was read
-recorded : (c : tie.After-settle) {q : Settled} {g g₀ : GsaRecord} → c .settle .result ≡ q → g ≡ g₀ → let d = c .before .before .before .before .before in let a = d .before .before .before .before .args in
+recorded : (c : tie.After-settle) {q : Settled} {h h₀ : GsaHead} → c .settle .result ≡ q → h ≡ h₀ → let d = c .before .before .before .before .before in let a = d .before .before .before .before .args in
     let r = d .do-parse-gsa .result in
-    isGsa (gsaSentence (take (r .count) (r .satellites)) g₀) ≡ settledGsa (talkerBytes (a .x .talker)) (gsaData (take (r .count) (r .satellites)) (c .before .before .answer .given .0 .0)) (settled q)
-    → Says (gsaOf (parts (now (a .s)) (a .x))) (record { answer = Gsa g; satellites = r .satellites; count = r .count })
+    isGsa (gsaSentence (take (r .count) (r .satellites)) (record { talker = a .x .talker; head = h₀ })) ≡ settledGsa (talkerBytes (a .x .talker)) (gsaData (take (r .count) (r .satellites)) (c .before .before .answer .given .0 .0)) (settled q)
+    → Says (gsaOf (parts (now (a .s)) (a .x))) (record { answer = Gsa (record { talker = a .x .talker; head = h }); satellites = r .satellites; count = r .count })
 recorded c e f made =
     let d = c .before .before .before .before .before in
+    let t = d .before .before .before .before .args .x .talker in
     let r = d .do-parse-gsa .result in
     with-record (held (d .do-parse-gsa .ensures .0) (c .before .before .answer .given .1)) refl refl refl
-    (ap (λ (g : GsaRecord). isGsa (gsaSentence (take (r .count) (r .satellites)) g)) f ∙ made ∙ by-system c e)
+    (ap (λ (h : GsaHead). isGsa (gsaSentence (take (r .count) (r .satellites)) (record { talker = t; head = h }))) f ∙ made ∙ by-system c e)
 
 pub gsa-of-spec : {M : Type 1} → statement M
 gsa-of-spec = tie.close (tie.spec

@@ -1,12 +1,20 @@
 -- No entry makes a sentence fail: one that may be absent is always read, so that a head decides alone. Assumes nothing.
 use Prim.Native.Nat.{ℕ}
-use mathlib.Core.Path.{_≡_, refl, ap, _∙_}
+use mathlib.Core.Path.{_≡_, refl, ap, sym, _∙_}
 use mathlib.Core.List.{List}
+use lib.ListN.{drop}
 use mathlib.Core.Option.{Option, none, some}
 use Rattle.text.specs.Reader.{Parse, miss, refuse, got, opt, orNone, pure}
-use Rattle.text.specs.Value.{value, is}
+use Rattle.text.specs.Placed.{Reads}
+use Rattle.text.specs.Value.{value, syntax, is}
 use Rattle.text.proofs.Binds.{bind-got}
-use Rattle.gsv.specs.Gsv.{Satellite, Head, Gsv, entry, withEntries}
+use Rattle.text.proofs.Places.{stop, took}
+use Rattle.text.proofs.Texts.{text-none}
+use Rattle.gsv.specs.Gsv.{Satellite, Head, Gsv, entry, head, withEntries, gsv}
+use Rattle.gsv.specs.Answer.{headOf, headAt}
+use Rattle.gsv.specs.declared.GsvHead.{GsvHead}
+use Rattle.gsv.specs.declared.HeadAt.{HeadAt}
+use Rattle.gsv.specs.declared.HeadAt.the-variants.{No, Is}
 use Rattle.gsv.proofs.Never.{opt-entry}
 
 record Slot (l : List ℕ) : Type 0 where
@@ -45,3 +53,13 @@ filled h l =
     bind-got _ _ _ (a .reads) ∙ bind-got _ _ _ (b .reads) ∙ bind-got _ _ _ (c .reads) ∙ bind-got _ _ _ (d .reads)
     in
     record { a = a .slot; b = b .slot; c = c .slot; d = d .slot; reads = rw e }
+
+-- what the code's answer to the head says of the whole data
+module _ {s : List ℕ} {r : HeadAt} (reads : Reads s 0 head (headAt r)) where
+  pub no-head : r ≡ No → syntax ≡ value (gsv s)
+  unfolding gsv
+  no-head e = text-none s gsv (stop withEntries reads (ap headAt e))
+
+  pub behind-head : {h : GsvHead} {p : ℕ} → r ≡ Is h p → value (withEntries (headOf h) (drop p s)) ≡ value (gsv s)
+  unfolding gsv
+  behind-head e = sym (ap (λ (q : Parse Gsv). value q) (bind-got head withEntries s (took reads (ap headAt e) .reads)))

@@ -1,3 +1,4 @@
 pub mod Signs
 pub mod Stores
 pub mod Lengths
+pub mod Cells

@@ -1,0 +1,159 @@
+// One line, taken: framing, the reader of its type, its words, and what it does to the gatherer. The refusal, the whole answer, the
+// gatherer and the walk all stand on this one way, so that the compiler makes one function of it; who wants no words or no table lends
+// none, and then no entry of a GSV line is read.
+ghost use mathlib.Core.Path.{_≡_};
+ghost use mathlib.Core.Bool.{_||_};
+ghost use Prim.Native.Nat.{_≤_};
+ghost use lib.Dec.{eqb, leb};
+ghost use lib.ListN.{length};
+ghost use Rattle.frame.specs.Answer.{parts};
+ghost use Rattle.answer.specs.Sentence.{rmcOf, gsaOf, gsvOf, dispatch, answer};
+ghost use Rattle.gather.specs.Table.{tableWords};
+ghost use Rattle.words.specs.Words.{wordCount};
+ghost use Rattle.core.specs.Answer.{Takes};
+ghost use Rattle.core.specs.Code.{Tells, Quiet};
+use frame::Framed;
+use frame::Refusal;
+use frame::Sentence;
+use gather::line::Outcome;
+use gsa::GsaAnswer;
+use gsa::Settled;
+use gsa::System;
+use gsv::GsvHead;
+use gsv::GsvRecord;
+use gsv::GsvTalker;
+use gsv::HeadAt;
+use gsv::TalkerOf;
+use rmc::RmcRead;
+use sentence::Formatter;
+
+// A line in brief: accepted; an accepted GSV line, with what stands in front of its entries and what it did to its row; or refused.
+pub enum Taken {
+    Accepted,
+    Gsv(GsvTalker, GsvHead, Outcome),
+    Refused(Refusal),
+}
+
+fn take_rmc(line: &[u8], x: Sentence, out: &mut [u64]) -> Taken
+    requires { ⌜ x .to ≤ length (now line) ⌝ }
+    ensures { λ r. ⌜ Quiet (rmcOf (parts (now (line .entry)) x)) (now (out .entry)) (now (out .exit)) r ⌝ }
+{
+    let talker = x.talker;
+    let data = x.data(line);
+    match rmc::do_parse_rmc(data) {
+        RmcRead::Syntax => Taken::Refused(Refusal::Syntax),
+        RmcRead::Is(d) => {
+            words::put_rmc(&mut *out, talker, d);
+            Taken::Accepted
+        }
+        RmcRead::Number => Taken::Refused(Refusal::Number),
+        RmcRead::BadTime => Taken::Refused(Refusal::BadTime),
+    }
+}
+
+fn take_gsa(line: &[u8], x: Sentence, out: &mut [u64]) -> Taken
+    requires { ⌜ x .to ≤ length (now line) ⌝ }
+    ensures { λ r. ⌜ Quiet (gsaOf (parts (now (line .entry)) x)) (now (out .entry)) (now (out .exit)) r ⌝ }
+{
+    let talker = x.talker;
+    let data = x.data(line);
+    let read = gsa::do_parse_gsa(data);
+    let satellites = read.satellites;
+    let count = read.count;
+    let answer = read.answer;
+    match answer {
+        GsaAnswer::Syntax => Taken::Refused(Refusal::Syntax),
+        GsaAnswer::Number => Taken::Refused(Refusal::Number),
+        GsaAnswer::Is(head) => {
+            let tail = head.system;
+            match gsa::settle(talker.0, talker.1, tail) {
+                Settled::Absent => {
+                    let g = gsa::with_system(head, System::Absent);
+                    words::put_gsa(&mut *out, talker, g, satellites, count);
+                    Taken::Accepted
+                }
+                Settled::Is(n) => {
+                    let g = gsa::with_system(head, System::Is(n));
+                    words::put_gsa(&mut *out, talker, g, satellites, count);
+                    Taken::Accepted
+                }
+                Settled::Mismatch(m, n) => Taken::Refused(Refusal::SystemMismatch(m, n)),
+            }
+        }
+    }
+}
+
+// Whether anyone asks for the entries of a GSV line: room for words, or a table.
+fn wanted(out: &[u64], table: &[u32]) -> bool
+    ensures { λ r. ⌜ r ≡ (leb wordCount (length (now (out .entry))) || eqb (length (now (table .entry))) tableWords) ⌝ }
+{
+    if words::WORDS <= out.len() {
+        return true;
+    }
+    table.len() == gather::table::WORDS
+}
+
+fn take_gsv(line: &[u8], x: Sentence, out: &mut [u64], table: &mut [u32]) -> Taken
+    requires { ⌜ x .to ≤ length (now line) ⌝ }
+    ensures { λ r. ⌜ Tells (gsvOf (parts (now (line .entry)) x)) (now (out .entry)) (now (out .exit)) (now (table .entry)) (now (table .exit)) r ⌝ }
+{
+    let letters = x.talker;
+    let TalkerOf::Is(talker) = gsv::talker_of(letters.0, letters.1) else {
+        return Taken::Refused(Refusal::UnknownTalker(letters));
+    };
+    let data = x.data(line);
+    let HeadAt::Is(head, at) = gsv::do_parse_head(data) else {
+        return Taken::Refused(Refusal::Syntax);
+    };
+    if !wanted(&*out, &*table) {
+        return Taken::Gsv(talker, head, Outcome::NoRow);
+    }
+    let body = gsv::with_entries(data, at, head);
+    let g = GsvRecord {
+        talker: talker,
+        data: body,
+    };
+    words::put_gsv(&mut *out, g);
+    let outcome = gather::table::gather(&mut *table, g);
+    Taken::Gsv(talker, head, outcome)
+}
+
+// A framed sentence, by its type. A refusal is not in words yet.
+fn dispatch(line: &[u8], x: Sentence, out: &mut [u64], table: &mut [u32]) -> Taken
+    requires { ⌜ x .to ≤ length (now line) ⌝ }
+    ensures { λ r. ⌜ Tells (dispatch (parts (now (line .entry)) x)) (now (out .entry)) (now (out .exit)) (now (table .entry)) (now (table .exit)) r ⌝ }
+{
+    let talker = x.talker;
+    let kind = x.kind;
+    match sentence::formatter_of(kind) {
+        Formatter::Rmc => take_rmc(line, x, &mut *out),
+        Formatter::Gsa => take_gsa(line, x, &mut *out),
+        Formatter::Gsv => take_gsv(line, x, &mut *out, &mut *table),
+        Formatter::Other => {
+            words::put_other(&mut *out, talker, kind);
+            Taken::Accepted
+        }
+    }
+}
+
+fn tell(line: &[u8], out: &mut [u64], table: &mut [u32]) -> Taken
+    ensures { λ r. ⌜ Tells (answer (now (line .entry))) (now (out .entry)) (now (out .exit)) (now (table .entry)) (now (table .exit)) r ⌝ }
+{
+    match frame::parse_nmea_sentence(line) {
+        Framed::Refused(why) => Taken::Refused(why),
+        Framed::Is(x) => dispatch(line, x, out, table),
+    }
+}
+
+// Takes any byte string: its words go into a buffer with room for them, an accepted GSV line into a table of the right length.
+pub fn take(line: &[u8], out: &mut [u64], table: &mut [u32]) -> Taken
+    ensures { λ r. ⌜ Takes (answer (now (line .entry))) (now (out .entry)) (now (out .exit)) (now (table .entry)) (now (table .exit)) r × (now (line .exit) ≡ now (line .entry)) ⌝ }
+{
+    let taken = tell(line, &mut *out, &mut *table);
+    match taken {
+        Taken::Accepted => {}
+        Taken::Gsv(_, _, _) => {}
+        Taken::Refused(why) => words::put_refused(&mut *out, why),
+    }
+    taken
+}

@@ -7,3 +7,4 @@ pub mod Decode
 pub mod Tables
 pub mod LentRows
 pub mod Worked
+pub mod Heads

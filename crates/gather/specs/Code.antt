@@ -7,15 +7,17 @@ use mathlib.Core.Option.{Option, none, some}
 use lib.Dec.{eqb, leb, ltb}
 use lib.ListN.{length, getD}
 use lib.Seq.{sets}
-use Rattle.groups.specs.Log.{Gsv}
+use Rattle.groups.specs.Log.{lineMax, Gsv}
 use Rattle.short.specs.Digits.{digitsOf}
 use Rattle.short.specs.Texts.{optText}
-use Rattle.gsv.specs.Gsv.{Satellite}
+use Rattle.gsv.specs.Gsv.{Satellite, Head}
 use Rattle.pack.specs.Cut.{entryMax}
 use Rattle.rows.specs.Leave.{upto, entrySize}
 use Rattle.gather.specs.Words.{cellCount, cellAt, flat, stands}
+use Rattle.gather.specs.Heads.{runStands}
 use Rattle.gather.specs.declared.lent.Pile.{Pile}
 use Rattle.gather.specs.declared.line.Before.{Before}
+use Rattle.gather.specs.declared.run.Run.{Run}
 
 pub record Digits (x r : ℕ) : Type 0 where
   pub count : r ≡ length (digitsOf x)
@@ -63,3 +65,9 @@ beforeOf (some es) = record { runs = true; count = length es }
 pub record Stored (ws ws′ : List ℕ) (k : ℕ) (es : List Satellite) (r : ℕ) : Type 0 where
   pub words : ws′ ≡ sets ws (cellAt k) (flat es)
   pub count : r ≡ k + length es
+
+-- a line with this head starts a run or goes on with this one
+abbrev pub runsOn : Run → Head → Bool
+runsOn r h =
+    cond (eqb (h .index) 1) (leb 1 (h .count) && leb (h .count) lineMax)
+    (runStands r && (eqb (h .count) (r .n) && (eqb (h .index) (r .next) && eqb (h .view) (r .view))))

@@ -4,3 +4,4 @@ pub mod Put
 pub mod Table
 pub mod Run
 pub mod Code
+pub mod Heads

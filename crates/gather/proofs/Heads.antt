@@ -28,7 +28,7 @@ module _ (r : Run) (h : Head) where
   open' = record { n = r .n; next = r .next; view = r .view; sats = [] }
 
   -- no entries before the line, where it goes on or starts
-  before-is : sofar (runMeant r) (headLine h) ≡ cond (runsOn r h) (some []) none
+  pub before-is : sofar (runMeant r) (headLine h) ≡ cond (runsOn r h) (some []) none
   before-is = by (eqb (h .index) 1) (runStands r)
     where
       by : (one s : Bool) → cond one (cond range (some []) none) (onward (cond s (some open') none) (headLine h)) ≡ cond (cond one range (s && tests)) (some []) none

@@ -8,3 +8,4 @@ pub mod Tables
 pub mod LentRows
 pub mod Worked
 pub mod Heads
+pub mod Counted

@@ -1,6 +1,6 @@
 -- Runs by their heads and a table of words, line by line: where each head is that of the table's run, a line says the same of both, and
 -- leaves them so. So who only counts groups needs no table. Assumes nothing.
-use Prim.Native.Nat.{ℕ, _+_, _≤_, _<_}
+use Prim.Native.Nat.{ℕ, _+_, _*_, _≤_, _<_}
 use native.Mathlib.Omega.{arith}
 use mathlib.Core.Path.{_≡_, refl, ap, sym, _∙_, subst}
 use mathlib.Core.List.{List, [], _++_}
@@ -16,7 +16,7 @@ use Rattle.gsv.specs.Gsv.{Satellite, Head, GsvSentence}
 use Rattle.answer.specs.Sentence.{answer, isGsv}
 use Rattle.rows.specs.Key.{sourceOf, keyOf, rowCount}
 use Rattle.rows.specs.Line.{lineOf}
-use Rattle.gather.specs.Heads.{headLine, runStands, runMeant, runOf, runAfter}
+use Rattle.gather.specs.Heads.{headLine, runStands, runMeant, runOf, runAfter, noRun, bare, headWords, runAt, setRun, Matches}
 use Rattle.gather.specs.Code.{runsOn}
 use Rattle.gather.specs.Put.{told}
 use Rattle.gather.specs.Table.{tableWords, freshTable, tableOf, tableAfter, saidBy}
@@ -24,14 +24,6 @@ use Rattle.gather.specs.declared.run.Run.{Run}
 use Rattle.gather.specs.declared.run.RunAfter.{RunAfter}
 use Rattle.gather.proofs.Heads.{before-is}
 use Rattle.gather.proofs.Tables.{row-below, table-meaning, table-says, same-words, zero-fresh}
-
-abbrev pub noRun : Run
-noRun = record { n = 0; next = 0; view = 0 }
-
--- a run without its entries
-abbrev bare : Option (Open Satellite) → Option (Open Satellite)
-bare none = none
-bare (some o) = some (record { n = o .n; next = o .next; view = o .view; sats = [] })
 
 abbrev emptied : Option (List Satellite) → Option (List Satellite)
 emptied none = none
@@ -118,32 +110,62 @@ left-stands r h =
     by true e true f = simp f refl
     by true e false f = simp (f, range e (eqb-false (h .index) (h .count) f)) refl
 
--- each head is that of the table's run
-pub record Matches (runs : List Run) (t : List ℕ) : Type 0 where
-  pub long : length t ≡ tableWords
-  pub few : length runs ≡ rowCount
-  pub each : (κ : ℕ) → κ < rowCount → runMeant (getD runs κ noRun) ≡ bare (tableOf t κ)
+-- a run that is set, and the others
+module _ (ws : List ℕ) (κ : ℕ) (r : Run) where
+  run-same : κ * 3 + 2 < length ws → runAt (setRun ws κ r) κ ≡ r
+  run-same h =
+      let w₁ = set ws (κ * 3) (r .n) in
+      let w₂ = set w₁ (κ * 3 + 1) (r .next) in
+      let l₁ : length w₁ ≡ length ws = length-set ws (κ * 3) (r .n) in
+      let l₂ : length w₂ ≡ length w₁ = length-set w₁ (κ * 3 + 1) (r .next) in
+      λ j.
+      record {
+        n = (getD-set-other w₂ (κ * 3 + 2) (κ * 3) (r .view) 0 (λ q. omega arith)
+            ∙ getD-set-other w₁ (κ * 3 + 1) (κ * 3) (r .next) 0 (λ q. omega arith)
+            ∙ getD-set-same ws (κ * 3) (r .n) 0 (omega arith)) j;
+        next = (getD-set-other w₂ (κ * 3 + 2) (κ * 3 + 1) (r .view) 0 (λ q. omega arith) ∙ getD-set-same w₁ (κ * 3 + 1) (r .next) 0 (omega arith)) j;
+        view = getD-set-same w₂ (κ * 3 + 2) (r .view) 0 (omega arith) j;
+      }
 
-pub matches-fresh : Matches (replicate rowCount noRun) freshTable
+  run-other : (ι : ℕ) → (ι ≡ κ → ⊥) → runAt (setRun ws κ r) ι ≡ runAt ws ι
+  run-other ι q = λ j. record { n = at (ι * 3) (λ e. omega arith) (λ e. omega arith) (λ e. omega arith) j; next = at (ι * 3 + 1) (λ e. omega arith) (λ e. omega arith) (λ e. omega arith) j; view = at (ι * 3 + 2) (λ e. omega arith) (λ e. omega arith) (λ e. omega arith) j }
+    where
+      at : (i : ℕ) → (i ≡ κ * 3 → ⊥) → (i ≡ κ * 3 + 1 → ⊥) → (i ≡ κ * 3 + 2 → ⊥) → getD (setRun ws κ r) i 0 ≡ getD ws i 0
+      at i a b c =
+          getD-set-other (set (set ws (κ * 3) (r .n)) (κ * 3 + 1) (r .next)) (κ * 3 + 2) i (r .view) 0 c
+          ∙ getD-set-other (set ws (κ * 3) (r .n)) (κ * 3 + 1) i (r .next) 0 b
+          ∙ getD-set-other ws (κ * 3) i (r .n) 0 a
+
+  run-long : length (setRun ws κ r) ≡ length ws
+  run-long =
+      length-set (set (set ws (κ * 3) (r .n)) (κ * 3 + 1) (r .next)) (κ * 3 + 2) (r .view)
+      ∙ length-set (set ws (κ * 3) (r .n)) (κ * 3 + 1) (r .next)
+      ∙ length-set ws (κ * 3) (r .n)
+
+pub matches-fresh : Matches (replicate headWords 0) freshTable
 matches-fresh =
     record {
       long = length-replicate {A = ℕ} tableWords 0;
       few = refl;
-      each = λ κ h. ap runMeant (getD-replicate rowCount κ noRun noRun h) ∙ sym (λ j. bare (zero-fresh j κ));
+      each = λ κ h. ap runMeant (zero κ h) ∙ sym (λ j. bare (zero-fresh j κ));
     }
+  where
+    zero : (κ : ℕ) → κ < rowCount → runAt (replicate headWords 0) κ ≡ noRun
+    zero κ h =
+        λ j. record { n = getD-replicate headWords (κ * 3) 0 0 (omega arith) j; next = getD-replicate headWords (κ * 3 + 1) 0 0 (omega arith) j; view = getD-replicate headWords (κ * 3 + 2) 0 0 (omega arith) j }
 
 -- an accepted line
-module _ (runs : List Run) (t : List ℕ) (m : Matches runs t) (l : List ℕ) (s : GsvSentence) (read : answer l ≡ isGsv s) where
+module _ (ws t : List ℕ) (m : Matches ws t) (l : List ℕ) (s : GsvSentence) (read : answer l ≡ isGsv s) where
   abbrev g : Gsv Satellite
   g = lineOf s
 
   abbrev mine : RunAfter
-  mine = runAfter (getD runs (keyOf s) noRun) (headIn g)
+  mine = runAfter (runAt ws (keyOf s)) (headIn g)
 
   within : keyOf s < rowCount
   within = row-below (sourceOf s)
 
-  stepped : SameOut (tableOf t (keyOf s)) g (step (runMeant (getD runs (keyOf s) noRun)) (headLine (headIn g))) (step (tableOf t (keyOf s)) g)
+  stepped : SameOut (tableOf t (keyOf s)) g (step (runMeant (runAt ws (keyOf s))) (headLine (headIn g))) (step (tableOf t (keyOf s)) g)
   stepped =
       subst (λ (r : Option (Open Satellite)). SameOut (tableOf t (keyOf s)) g (step r (headLine (headIn g))) (step (tableOf t (keyOf s)) g))
       (sym (m .each (keyOf s) within)) (same-step (tableOf t (keyOf s)) g)
@@ -151,25 +173,25 @@ module _ (runs : List Run) (t : List ℕ) (m : Matches runs t) (l : List ℕ) (s
   pub same-said : mine .handed ≡ saidBy t g
   same-said = stepped .says ∙ sym (table-says t l s read (m .long))
 
-  pub still : Matches (set runs (keyOf s) (mine .run)) (tableAfter t g)
+  pub still : Matches (setRun ws (keyOf s) (mine .run)) (tableAfter t g)
   still =
       record {
         long = same-words t l s read (m .long);
-        few = length-set runs (keyOf s) (mine .run) ∙ m .few;
+        few = run-long ws (keyOf s) (mine .run) ∙ m .few;
         each = λ κ h. at κ h (eqb (keyOf s) κ) refl ∙ sym (λ j. bare (table-meaning t l s read (m .long) j κ));
       }
     where
       at : (κ : ℕ) → κ < rowCount → (b : Bool) → eqb (keyOf s) κ ≡ b
-          → runMeant (getD (set runs (keyOf s) (mine .run)) κ noRun) ≡ bare (cond (eqb (keyOf s) κ) (step (tableOf t (keyOf s)) g .row) (tableOf t κ))
+          → runMeant (runAt (setRun ws (keyOf s) (mine .run)) κ) ≡ bare (cond (eqb (keyOf s) κ) (step (tableOf t (keyOf s)) g .row) (tableOf t κ))
       at κ h true e =
           let q : keyOf s ≡ κ = eqb-true (keyOf s) κ e in
-          ap (λ (i : ℕ). runMeant (getD (set runs (keyOf s) (mine .run)) i noRun)) (sym q)
-          ∙ ap runMeant (getD-set-same runs (keyOf s) (mine .run) noRun (omega (arith, within, m .few)))
-          ∙ left-stands (getD runs (keyOf s) noRun) (headIn g)
+          ap (λ (i : ℕ). runMeant (runAt (setRun ws (keyOf s) (mine .run)) i)) (sym q)
+          ∙ ap runMeant (run-same ws (keyOf s) (mine .run) (omega (arith, within, m .few)))
+          ∙ left-stands (runAt ws (keyOf s)) (headIn g)
           ∙ stepped .row
           ∙ sym (ap (λ (b : Bool). bare (cond b (step (tableOf t (keyOf s)) g .row) (tableOf t κ))) e)
       at κ h false e =
           let n : κ ≡ keyOf s → ⊥ = λ q. eqb-false (keyOf s) κ e (sym q) in
-          ap runMeant (getD-set-other runs (keyOf s) κ (mine .run) noRun n)
+          ap runMeant (run-other ws (keyOf s) (mine .run) κ n)
           ∙ m .each κ h
           ∙ sym (ap (λ (b : Bool). bare (cond b (step (tableOf t (keyOf s)) g .row) (tableOf t κ))) e)

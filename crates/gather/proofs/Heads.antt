@@ -8,14 +8,17 @@ use mathlib.Core.Bool.{Bool, true, false, _&&_, cond, and-eq-true-iff}
 use mathlib.Core.Option.{Option, none, some}
 use borrow.Author.Tests.{eq-eqb, ne-eqb, eqb-true, leb-true}
 use lib.Dec.{eqb, leb}
+use lib.ListN.{length}
 use Rattle.groups.specs.Log.{lineMax, Gsv}
 use Rattle.groups.specs.Step.{Open, onward, sofar, taken}
+use Rattle.gsv.specs.Talker.{Talker}
 use Rattle.gsv.specs.Gsv.{Satellite, Head}
-use Rattle.gather.specs.Heads.{headLine, runStands, runMeant, outOf, runAfter}
+use Rattle.rows.specs.Key.{sourceFrom, rowFrom}
+use Rattle.gather.specs.Heads.{headLine, runStands, runMeant, outOf, runAfter, headWords, runAt, setRun, GathersHead}
 use Rattle.gather.specs.Code.{runsOn}
 use Rattle.gather.specs.declared.run.Run.{Run}
 use Rattle.gather.specs.declared.run.RunAfter.{RunAfter}
-use Rattle.gather.specs.declared.line.Outcome.the-variants.{Nothing, Waiting, Complete}
+use Rattle.gather.specs.declared.line.Outcome.the-variants.{NoRow, Nothing, Waiting, Complete}
 
 module _ (r : Run) (h : Head) where
   abbrev range : Bool
@@ -64,3 +67,26 @@ module _ (r : Run) (h : Head) where
           let (_, s₁) = and-eq-true-iff (leb 2 (r .next)) _ .0 s in
           let (below, few) = and-eq-true-iff (leb (r .next) (r .n)) _ .0 s₁ in
           omega (arith, eqb-true (h .index) (r .next) same, leb-true (r .next) (r .n) below, leb-true (r .n) lineMax few)
+
+-- the words of heads
+module _ (ws : List ℕ) (t : Talker) (h : Head) where
+  abbrev key : ℕ
+  key = rowFrom (sourceFrom t)
+
+  pub no-heads : (length ws ≡ headWords → ⊥) → GathersHead ws ws t h NoRow
+  no-heads n =
+      let e : eqb (length ws) headWords ≡ false = ne-eqb (length ws) headWords n in
+      record {
+        words = sym (ap (λ (b : Bool). cond b (setRun ws key (runAfter (runAt ws key) h .run)) ws) e);
+        says = sym (ap (λ (b : Bool). cond b (runAfter (runAt ws key) h .handed) NoRow) e);
+      }
+
+  pub gathers-head : (k : ℕ) {r : Run} {a : RunAfter} {ws′ : List ℕ} → k ≡ key → length ws ≡ headWords → r ≡ runAt ws k → a ≡ runAfter r h
+      → ws′ ≡ setRun ws k (a .run) → GathersHead ws ws′ t h (a .handed)
+  gathers-head k {r} {a} q long er ea ew =
+      let e : eqb (length ws) headWords ≡ true = eq-eqb (length ws) headWords long in
+      let is : a ≡ runAfter (runAt ws key) h = ea ∙ ap (λ (x : Run). runAfter x h) (er ∙ ap (runAt ws) q) in
+      record {
+        words = ew ∙ (λ j. setRun ws (q j) (is j .run)) ∙ sym (ap (λ (b : Bool). cond b (setRun ws key (runAfter (runAt ws key) h .run)) ws) e);
+        says = ap (λ (x : RunAfter). x .handed) is ∙ sym (ap (λ (b : Bool). cond b (runAfter (runAt ws key) h .handed) NoRow) e);
+      }

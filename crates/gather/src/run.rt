@@ -1,11 +1,16 @@
-// A run by its head alone. Whether a group is complete does not turn on its entries, so who counts groups keeps none.
+// Runs by their heads alone. Whether a group is complete does not turn on its entries, so who only counts groups keeps none.
 ghost use mathlib.Core.Path.{_≡_};
-ghost use Rattle.gsv.specs.Answer.{headOf};
-ghost use Rattle.gather.specs.Heads.{runStands, runAfter};
+ghost use Prim.Native.Nat.{_<_};
+ghost use lib.ListN.{length};
+ghost use Rattle.rows.specs.Key.{rowCount};
+ghost use Rattle.gsv.specs.Answer.{talker as talkerIs, headOf};
+ghost use Rattle.gather.specs.Heads.{runStands, runAfter, headWords, runAt, setRun, GathersHead};
 ghost use Rattle.gather.specs.Code.{runsOn};
 use crate::lent;
 use crate::line::Outcome;
+use crate::table;
 use gsv::GsvHead;
+use gsv::GsvTalker;
 
 // n, the number waited for, 0 where no run stands, and the in-view count.
 pub struct Run {
@@ -56,7 +61,7 @@ fn runs(run: Run, h: GsvHead) -> bool
 }
 
 // What a line of this head does to a run.
-pub fn follow(run: Run, h: GsvHead) -> RunAfter
+fn follow(run: Run, h: GsvHead) -> RunAfter
     ensures { λ r. ⌜ r ≡ runAfter run (headOf h) ⌝ }
 {
     let none = Run {
@@ -84,4 +89,47 @@ pub fn follow(run: Run, h: GsvHead) -> RunAfter
         },
         handed: Outcome::Waiting,
     }
+}
+
+// The words of a run: its three numbers.
+const HEAD: usize = 3;
+
+// How many words the heads of a table's rows have.
+pub const WORDS: usize = table::ROWS * HEAD;
+
+// The run of a row.
+fn run_at(heads: &[u32], row: usize) -> Run
+    requires { ⌜ (length (now heads) ≡ headWords) × (row < rowCount) ⌝ }
+    ensures { λ r. ⌜ r ≡ runAt (now (heads .entry)) row ⌝ }
+{
+    let at = row * HEAD;
+    Run {
+        n: heads[at],
+        next: heads[at + 1],
+        view: heads[at + 2],
+    }
+}
+
+fn set_run(heads: &mut [u32], row: usize, run: Run)
+    requires { ⌜ (length (now heads) ≡ headWords) × (row < rowCount) ⌝ }
+    ensures { λ _. ⌜ now (heads .exit) ≡ setRun (now (heads .entry)) row run ⌝ }
+{
+    let at = row * HEAD;
+    heads[at] = run.n;
+    heads[at + 1] = run.next;
+    heads[at + 2] = run.view;
+}
+
+// What an accepted GSV line with this head does to the words of heads, whatever they hold.
+pub fn count(heads: &mut [u32], talker: GsvTalker, head: GsvHead) -> Outcome
+    ensures { λ r. ⌜ GathersHead (now (heads .entry)) (now (heads .exit)) (talkerIs talker) (headOf head) r ⌝ }
+{
+    if heads.len() != WORDS {
+        return Outcome::NoRow;
+    }
+    let row = table::row_of(table::source_of(talker));
+    let after = follow(run_at(&*heads, row), head);
+    let left = after.run;
+    set_run(&mut *heads, row, left);
+    after.handed
 }

@@ -9,10 +9,12 @@ use Rattle.answer.specs.Sentence.{isRmc, isGsa, isGsv, isOther, isRefused}
 use Rattle.lines.specs.Lines.{lineFeed}
 use Rattle.lines.specs.Places.{lineAt, nextPlace, stretch}
 use Rattle.gather.specs.declared.line.Outcome.the-variants.{Nothing}
+use Rattle.gather.specs.Heads.{Matches}
 use Rattle.fed.specs.Line.{LogLine, blank, read, saidOf, acceptedGsv, gathers}
 use Rattle.fed.specs.Fed.{isHanded}
 use Rattle.log.specs.Step.{longest}
 use Rattle.log.specs.Answer.{lineIn, besideSaid, Cells}
+use Rattle.log.specs.declared.line.Bounds.{Bounds}
 use Rattle.log.specs.declared.line.LineAt.{LineAt}
 use Rattle.log.specs.declared.step.Stepped.{Stepped}
 use Rattle.log.specs.declared.step.StepAnswer.{StepAnswer}
@@ -26,6 +28,11 @@ pub record CutAt (log : List ℕ) (p r : ℕ) : Type 0 where
   pub after : p ≤ r
   pub within : r ≤ length log
   pub line : lineAt log p ≡ take (r - p) (drop p log)
+
+-- and the place after it
+pub record Bounded (log : List ℕ) (p : ℕ) (r : Bounds) : Type 0 where
+  pub cut : CutAt log p (r .cut)
+  pub next : r .next ≡ nextPlace log p
 
 -- none was seen only where none is
 abbrev pub Saw : Bool → ℕ → Bool → Type 0
@@ -73,3 +80,11 @@ pub record SaysLine (log : List ℕ) (p : ℕ) (r : LineAt) : Type 0 where
   pub says : lineIn (take (r .count) (r .satellites)) (r .line) ≡ saidOf (lineAt log p)
   pub beside : Cells (besideSaid (saidOf (lineAt log p))) (r .satellites) (r .count)
   pub next : r .next ≡ nextPlace log p
+
+-- the same by heads: whatever table has runs with these heads, the line counts as it does there, and leaves its heads
+pub record CountsAs (log : List ℕ) (p : ℕ) (t heads : List ℕ) (r : LineTaken) : Type 0 where
+  pub takes : Takes log p t (gathers t (acceptedGsv (saidOf (lineAt log p))) .gatherer) r
+  pub matches : Matches heads (gathers t (acceptedGsv (saidOf (lineAt log p))) .gatherer)
+
+abbrev pub TakesHead : List ℕ → ℕ → List ℕ → List ℕ → LineTaken → Type 0
+TakesHead log p heads heads′ r = (t : List ℕ) → Matches heads t → CountsAs log p t heads′ r

@@ -3,7 +3,7 @@ ghost use mathlib.Core.Path.{_≡_};
 ghost use Prim.Native.Nat.{_+_, _≤_, _<_, min};
 ghost use lib.ListN.{length, drop};
 ghost use Rattle.lines.specs.Places.{isPlace, stretch};
-ghost use Rattle.log.specs.Code.{SaysLine, CutAt, Saw, Clear};
+ghost use Rattle.log.specs.Code.{SaysLine, CutAt, Bounded, Saw, Clear};
 use sentence::Record;
 
 // A log has at most this many bytes.
@@ -70,7 +70,7 @@ fn skip(log: &[u8], at: usize) -> usize
 }
 
 // The place of the first line feed from `at` on, or the end.
-pub(crate) fn line_end(log: &[u8], at: usize) -> usize
+fn line_end(log: &[u8], at: usize) -> usize
     ensures { λ r. ⌜ r ≡ at + length (stretch (drop at (now (log .entry)))) ⌝ }
 {
     let mut i = skip(log, at);
@@ -84,7 +84,7 @@ pub(crate) fn line_end(log: &[u8], at: usize) -> usize
 }
 
 // The line's end without a carriage return before it.
-pub(crate) fn line_cut(log: &[u8], at: usize, end: usize) -> usize
+fn line_cut(log: &[u8], at: usize, end: usize) -> usize
     requires { ⌜ (at ≤ length (now log)) × (end ≡ at + length (stretch (drop at (now log)))) ⌝ }
     ensures { λ r. ⌜ CutAt (now (log .entry)) at r ⌝ }
 {
@@ -98,13 +98,30 @@ pub(crate) fn line_cut(log: &[u8], at: usize, end: usize) -> usize
 }
 
 // The place after the line feed, or the end.
-pub(crate) fn line_next(log: &[u8], end: usize) -> usize
+fn line_next(log: &[u8], end: usize) -> usize
     ensures { λ r. ⌜ r ≡ min (end + 1) (length (now (log .entry))) ⌝ }
 {
     if end < log.len() {
         return end + 1;
     }
     log.len()
+}
+
+// Where the bytes of a line end, and where the next line begins.
+pub(crate) struct Bounds {
+    pub cut: usize,
+    pub next: usize,
+}
+
+// The line at a place that is not the end goes from there to the cut.
+pub(crate) fn bounds_at(log: &[u8], at: usize) -> Bounds
+    requires { ⌜ at < length (now log) ⌝ }
+    ensures { λ r. ⌜ Bounded (now (log .entry)) at r ⌝ }
+{
+    let end = line_end(log, at);
+    let cut = line_cut(log, at, end);
+    let next = line_next(log, end);
+    Bounds { cut, next }
 }
 
 // What a line of the log is.
@@ -126,9 +143,9 @@ pub(crate) fn line_at(log: &[u8], at: usize) -> LineAt
     requires { ⌜ at < length (now log) ⌝ }
     ensures { λ r. ⌜ SaysLine (now (log .entry)) at r ⌝ }
 {
-    let end = line_end(log, at);
-    let cut = line_cut(log, at, end);
-    let next = line_next(log, end);
+    let b = bounds_at(log, at);
+    let cut = b.cut;
+    let next = b.next;
     if cut == at {
         let line = Line::Blank;
         return LineAt {

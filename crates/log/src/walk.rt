@@ -1,21 +1,18 @@
 // A walk: as many steps as it may take, or as there are lines left, counted.
 ghost use mathlib.Core.Path.{_≡_};
-ghost use mathlib.Core.List.{[]};
 ghost use Prim.Native.Nat.{_≤_, _<_};
 ghost use lib.ListN.{length};
 ghost use Rattle.gather.specs.Table.{freshTable};
-ghost use Rattle.sentence.specs.Answer.{recordOf};
-ghost use Rattle.fed.specs.Line.{read};
 ghost use Rattle.fed.specs.Fed.{isHanded};
 ghost use Rattle.log.specs.Step.{longest};
 ghost use Rattle.log.specs.Walk.{grouped, walkOf};
 ghost use Rattle.log.specs.Answer.{walkIn, SaysWalk};
-ghost use Rattle.log.specs.Code.{sortOf, talliedBy, Within, Takes};
-use crate::follow::follow;
+ghost use Rattle.log.specs.Code.{talliedBy, Within, Takes, TakesHead};
 use crate::line;
+use core::Taken;
 use frame::Refusal;
 use gather::line::Outcome;
-use sentence::Record;
+use gather::run;
 
 // What was counted, and the place where the next line begins.
 pub struct Counts {
@@ -103,19 +100,6 @@ fn is_handed(o: Outcome) -> bool
     }
 }
 
-// What a line's answer counts as.
-fn sort_of(answer: Record) -> Sort
-    ensures { λ r. ⌜ r ≡ sortOf (read (recordOf [] answer)) ⌝ }
-{
-    match answer {
-        Record::Rmc(_) => Sort::Accepted,
-        Record::Gsa(_) => Sort::Accepted,
-        Record::Gsv(_) => Sort::Accepted,
-        Record::Other(_) => Sort::Accepted,
-        Record::Refused(_) => Sort::Refused,
-    }
-}
-
 // What the line at a place counts as, whether it hands out a group, and the place after it.
 pub struct LineTaken {
     pub sort: Sort,
@@ -123,31 +107,46 @@ pub struct LineTaken {
     pub next: usize,
 }
 
-// The line at a place that is not the end. It goes from the reader to the table at once: a step's answer would be copied on the way.
-fn take_line(log: &[u8], at: usize, words: &mut [u32]) -> LineTaken
-    requires { ⌜ at < length (now log) ⌝ }
-    ensures { λ r. ⌜ Takes (now (log .entry)) at (now (words .entry)) (now (words .exit)) r ⌝ }
+fn line_taken(sort: Sort, handed: bool, next: usize) -> LineTaken
+    ensures { λ r. ⌜ r ≡ record { sort = sort; handed = handed; next = next } ⌝ }
 {
-    let end = line::line_end(log, at);
-    let cut = line::line_cut(log, at, end);
-    let next = line::line_next(log, end);
-    if cut == at {
-        let sort = Sort::Blank;
-        return LineTaken {
-            sort: sort,
-            handed: false,
-            next: next,
-        };
-    }
-    let read = sentence::parse_bytes(&log[at..cut]);
-    let answer = read.answer;
-    let sort = sort_of(answer);
-    let outcome = follow(answer, &mut *words);
-    let handed = is_handed(outcome);
     LineTaken {
         sort: sort,
         handed: handed,
         next: next,
+    }
+}
+
+// The line at a place that is not the end. Its words are not asked for.
+fn take_line(log: &[u8], at: usize, words: &mut [u32]) -> LineTaken
+    requires { ⌜ at < length (now log) ⌝ }
+    ensures { λ r. ⌜ Takes (now (log .entry)) at (now (words .entry)) (now (words .exit)) r ⌝ }
+{
+    let b = line::bounds_at(log, at);
+    let cut = b.cut;
+    let next = b.next;
+    if cut == at {
+        return line_taken(Sort::Blank, false, next);
+    }
+    let mut none = [0u64; 0];
+    match core::take(&log[at..cut], &mut none, &mut *words) {
+        Taken::Accepted => line_taken(Sort::Accepted, false, next),
+        Taken::Gsv(_, _, o) => line_taken(Sort::Accepted, is_handed(o), next),
+        Taken::Refused(_) => line_taken(Sort::Refused, false, next),
+    }
+}
+
+// Before the first line.
+fn counts_at(place: usize) -> Counts
+    ensures { λ r. ⌜ r ≡ record { lines = 0; blank = 0; accepted = 0; refused = 0; groups = 0; next = place } ⌝ }
+{
+    Counts {
+        lines: 0,
+        blank: 0,
+        accepted: 0,
+        refused: 0,
+        groups: 0,
+        next: place,
     }
 }
 
@@ -161,14 +160,7 @@ pub fn walk(log: &[u8], place: usize, allowance: usize, words: &mut [u32]) -> Wa
     if !line::is_place(log, place) {
         return Walked::Refused(Refusal::BadPlace(place));
     }
-    let mut c = Counts {
-        lines: 0,
-        blank: 0,
-        accepted: 0,
-        refused: 0,
-        groups: 0,
-        next: place,
-    };
+    let mut c = counts_at(place);
     while c.lines < allowance {
         let at = c.next;
         if log.len() <= at {
@@ -183,10 +175,44 @@ pub fn walk(log: &[u8], place: usize, allowance: usize, words: &mut [u32]) -> Wa
     Walked::Went(c)
 }
 
-// The whole log from its start, with a fresh table of its own.
+// The same, where runs are kept by their heads: whether a group is handed out does not turn on entries, so none is read.
+fn count_line(log: &[u8], at: usize, heads: &mut [u32]) -> LineTaken
+    requires { ⌜ at < length (now log) ⌝ }
+    ensures { λ r. ⌜ TakesHead (now (log .entry)) at (now (heads .entry)) (now (heads .exit)) r ⌝ }
+{
+    let b = line::bounds_at(log, at);
+    let cut = b.cut;
+    let next = b.next;
+    if cut == at {
+        return line_taken(Sort::Blank, false, next);
+    }
+    let mut none = [0u64; 0];
+    let mut no_table = [0u32; 0];
+    match core::take(&log[at..cut], &mut none, &mut no_table) {
+        Taken::Accepted => line_taken(Sort::Accepted, false, next),
+        Taken::Gsv(talker, head, _) => {
+            let outcome = run::count(&mut *heads, talker, head);
+            line_taken(Sort::Accepted, is_handed(outcome), next)
+        }
+        Taken::Refused(_) => line_taken(Sort::Refused, false, next),
+    }
+}
+
+// The whole log from its start, with a fresh gatherer, of which the heads of its runs are enough.
 pub fn totals(log: &[u8]) -> Walked
     ensures { λ r. ⌜ (walkIn r ≡ walkOf (now (log .entry)) 0 (length (now (log .entry))) freshTable .answer) × (now (log .exit) ≡ now (log .entry)) ⌝ }
 {
-    let mut words = [0u32; gather::table::WORDS];
-    walk(log, 0, log.len(), &mut words)
+    if line::LONGEST < log.len() {
+        return Walked::Refused(Refusal::LogTooLong(log.len()));
+    }
+    let mut heads = [0u32; run::WORDS];
+    let mut c = counts_at(0);
+    while c.next < log.len() {
+        let t = count_line(log, c.next, &mut heads);
+        let sort = t.sort;
+        let next = t.next;
+        c = tally(c, sort, next);
+        c = with_group(c, t.handed);
+    }
+    Walked::Went(c)
 }

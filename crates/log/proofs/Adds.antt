@@ -35,14 +35,6 @@ gsv-beside xs (Read (Gsv g)) = refl
 gsv-beside xs (Read (Other k)) = refl
 gsv-beside xs (Read (Refused r)) = refl
 
-sort-beside : (xs : List ℕ) (l : Code.Line) → sortOf (lineIn [] l) ≡ sortOf (lineIn xs l)
-sort-beside xs Blank = refl
-sort-beside xs (Read (Rmc r)) = refl
-sort-beside xs (Read (Gsa g)) = refl
-sort-beside xs (Read (Gsv g)) = refl
-sort-beside xs (Read (Other k)) = refl
-sort-beside xs (Read (Refused r)) = refl
-
 module _ (c : Counts) (next : ℕ) where
   zero' : (x : ℕ) → x ≡ x + 0
   zero' x = omega arith
@@ -63,16 +55,6 @@ module _ (c : Counts) (next : ℕ) where
 module _ (log : List ℕ) (p : ℕ) (l : LineAt) (says : SaysLine log p l) where
   pub gsv-is : acceptedGsv (lineIn [] (l .line)) ≡ acceptedGsv (saidOf (lineAt log p))
   gsv-is = gsv-beside (take (l .count) (l .satellites)) (l .line) ∙ ap acceptedGsv (says .says)
-
-  pub taken : {t t′ : List ℕ} {o : Outcome} {k : LineTaken} → Follows (acceptedGsv (lineIn [] (l .line))) t t′ o → k .sort ≡ sortOf (lineIn [] (l .line))
-      → k .handed ≡ isHanded o → k .next ≡ l .next → Takes log p t t′ k
-  taken {t} x sort handed next =
-      record {
-        sort = sort ∙ sort-beside (take (l .count) (l .satellites)) (l .line) ∙ ap sortOf (says .says);
-        handed = handed ∙ ap isHanded (x .says) ∙ (λ i. isHanded (gathers t (gsv-is i) .handed));
-        words = x .words ∙ (λ i. gathers t (gsv-is i) .gatherer);
-        next = next ∙ says .next;
-      }
 
 -- a line that does nothing, and a GSV record
 pub follows-none : (t : List ℕ) → Follows none t t Nothing

@@ -20,34 +20,43 @@ said-read : (l : List ℕ) → 0 < length l → read (answer l) ≡ saidOf l
 said-read [] h = absurd (omega arith)
 said-read (b ∷ l) h = refl
 
--- the line at p, which runs to cut, with its stretch to end
-module _ (log : List ℕ) (p end cut next : ℕ) (in' : p < length log) (ends : end ≡ p + length (stretch (drop p log))) (line : CutAt log p cut)
-    (after : next ≡ min (end + 1) (length log)) where
-  next-right : next ≡ nextPlace log p
-  next-right =
-      let e : min (end + 1) (length log) ≡ min (p + length (stretch (drop p log)) + 1) (length log) = ap (λ (k : ℕ). min (k + 1) (length log)) ends in
-      let h : p ≤ length log = omega arith in
-      after ∙ e ∙ sym (next-is log p h)
+-- the place after a line whose stretch ends there
+pub next-right : (log : List ℕ) (p end next : ℕ) → p < length log → end ≡ p + length (stretch (drop p log)) → next ≡ min (end + 1) (length log)
+    → next ≡ nextPlace log p
+next-right log p end next in' ends after =
+    let e : min (end + 1) (length log) ≡ min (p + length (stretch (drop p log)) + 1) (length log) = ap (λ (k : ℕ). min (k + 1) (length log)) ends in
+    let h : p ≤ length log = omega arith in
+    after ∙ e ∙ sym (next-is log p h)
 
-  pub here-blank : cut ≡ p → SaysLine log p (record { line = Blank; satellites = row []; count = 0; next = next })
-  here-blank e =
+-- the line at p, which runs to cut
+module _ (log : List ℕ) (p cut : ℕ) (in' : p < length log) (line : CutAt log p cut) where
+  pub blank-here : cut ≡ p → blank ≡ saidOf (lineAt log p)
+  blank-here e =
       let z : cut - p ≡ 0 = omega arith in
-      let l : blank ≡ saidOf (lineAt log p) = sym (ap saidOf (line .line ∙ ap (λ (k : ℕ). take k (drop p log)) z)) in
-      record {
-        says = l;
-        beside = subst (λ (s : LogLine). Cells (besideSaid s) (row []) 0) l (record { are = refl; number = refl });
-        next = next-right;
-      }
+      sym (ap saidOf (line .line ∙ ap (λ (k : ℕ). take k (drop p log)) z))
 
-  pub here-read : (cut ≡ p → ⊥) → (text : List ℕ) → text ≡ take (cut - p) (drop p log) → (a : ParseResult) → Says (answer text) a
-      → SaysLine log p (record { line = Read (a .answer); satellites = a .satellites; count = a .count; next = next })
-  here-read n text et a ea =
+  pub read-here : (cut ≡ p → ⊥) → (text : List ℕ) → text ≡ take (cut - p) (drop p log) → read (answer text) ≡ saidOf (lineAt log p)
+  read-here n text e =
       let m : length (lineAt log p) ≡ min (cut - p) (length log - p) =
       ap length (line .line) ∙ length-take (cut - p) (drop p log) ∙ ap (min (cut - p)) (length-drop p log) in
       let k : 0 < length (lineAt log p) = omega (arith, line .after, line .within) in
-      let l : read (answer text) ≡ saidOf (lineAt log p) = ap (λ (t : List ℕ). read (answer t)) (et ∙ sym (line .line)) ∙ said-read (lineAt log p) k in
+      ap (λ (t : List ℕ). read (answer t)) (e ∙ sym (line .line)) ∙ said-read (lineAt log p) k
+
+-- as a step has it
+module _ {log : List ℕ} {p next : ℕ} (after : next ≡ nextPlace log p) where
+  pub says-blank : blank ≡ saidOf (lineAt log p) → SaysLine log p (record { line = Blank; satellites = row []; count = 0; next = next })
+  says-blank l =
+      record {
+        says = l;
+        beside = subst (λ (s : LogLine). Cells (besideSaid s) (row []) 0) l (record { are = refl; number = refl });
+        next = after;
+      }
+
+  pub says-read : (text : List ℕ) (a : ParseResult) → Says (answer text) a → read (answer text) ≡ saidOf (lineAt log p)
+      → SaysLine log p (record { line = Read (a .answer); satellites = a .satellites; count = a .count; next = next })
+  says-read text a ea l =
       record {
         says = ap read (ea .says) ∙ l;
         beside = subst (λ (s : LogLine). Cells (besideSaid s) (a .satellites) (a .count)) l (record { are = ea .beside .cells-are; number = ea .beside .count-is });
-        next = next-right;
+        next = after;
       }

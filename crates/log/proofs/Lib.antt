@@ -16,3 +16,5 @@ pub mod LentLog
 pub mod Quiet
 pub mod Instances
 pub mod Worked
+pub mod Taken
+pub mod Counting

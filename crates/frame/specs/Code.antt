@@ -1,10 +1,16 @@
--- For the code, not for a reader of the scope: whether a `*` stands in a text, byte by byte, and a digit as a number.
-use Prim.Native.Nat.{ℕ}
+-- For the code, not for a reader of the scope: whether a `*` stands in a text, byte by byte, a digit as a number, and which of
+-- the types begin with a letter.
+use Prim.Native.Nat.{ℕ, _≤_}
+use mathlib.Core.Path.{_≡_}
 use mathlib.Core.Bool.{cond}
 use mathlib.Core.List.{List, [], _∷_}
 use mathlib.Core.Option.{Option, none, some}
 use lib.Dec.{eqb}
+use lib.ListN.{length}
+use lib.Seq.{slice}
 use Rattle.text.specs.Bytes.{byte}
+use Rattle.frame.specs.Types.{types, listed}
+use Rattle.frame.specs.declared.sentence.Range.{Range}
 
 -- the flag after one byte more: 1 at a `*`
 unfoldable pub mark : ℕ → ℕ → ℕ
@@ -19,3 +25,8 @@ marked f (b ∷ l) = marked (mark f b) l
 abbrev pub orSixteen : Option ℕ → ℕ
 orSixteen none = 16
 orSixteen (some v) = v
+
+-- the types that begin with the letter `a` all stand in a part of the list
+pub record Begins (a : ℕ) (r : Range) : Type 0 where
+  pub within : r .to ≤ length types
+  pub all : (b c : ℕ) → listed types (a ∷ b ∷ c ∷ []) ≡ listed (slice (r .from) (r .to) types) (a ∷ b ∷ c ∷ [])

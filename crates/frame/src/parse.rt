@@ -1,4 +1,5 @@
 // The framing of a line, part by part.
+use crate::pass::one_pass;
 use crate::refusal::Kind;
 use crate::refusal::Refusal;
 use crate::refusal::Talker;
@@ -14,10 +15,14 @@ ghost use Rattle.text.specs.Placed.{Reads};
 ghost use lib.Seq.{slice};
 ghost use Rattle.frame.specs.Checksum.{checksum};
 ghost use Rattle.frame.specs.Frame.{taken, sentenceType, sentence, compared, sized, frame, dataIn};
-ghost use Rattle.frame.specs.Answer.{talkerAt, kindAt, read, parts, framed};
+ghost use Rattle.frame.specs.Answer.{letters, talkerAt, kindAt, read, parts, framed};
+ghost use Rattle.frame.specs.Code.{Enclosed};
 
 // Where the data begin, after `$`, talker, type and comma.
 const DATA: usize = 7;
+
+// The length of a sentence that has no data.
+const SHORTEST: usize = 10;
 
 // A framed sentence, or why there is none.
 pub enum Framed {
@@ -137,8 +142,8 @@ fn sized(s: &[u8]) -> Framed
     }
 }
 
-// The frame of any line. An ASCII text is valid UTF-8, so a line that is ASCII is asked no more.
-pub fn parse_nmea_sentence(s: &[u8]) -> Framed
+// The frame of any line, check by check. An ASCII text is valid UTF-8, so a line that is ASCII is asked no more.
+fn checked(s: &[u8]) -> Framed
     ensures { λ r. ⌜ (framed (now (s .entry)) r ≡ frame (now (s .entry))) × (now (s .exit) ≡ now (s .entry)) ⌝ }
 {
     if utf8::is_ascii(s) {
@@ -148,6 +153,57 @@ pub fn parse_nmea_sentence(s: &[u8]) -> Framed
         return Framed::Refused(Refusal::NotAscii);
     }
     Framed::Refused(Refusal::BadUtf8)
+}
+
+// The frame of a line that begins and ends as a sentence does: one pass tells what stands between, and the checksum.
+fn passed(s: &[u8], kind: Kind, found: u8, to: usize) -> Framed
+    requires { ⌜ Enclosed (now s) (letters kind) found to ⌝ }
+    ensures { λ r. ⌜ (framed (now (s .entry)) r ≡ frame (now (s .entry))) × (now (s .exit) ≡ now (s .entry)) ⌝ }
+{
+    let x = one_pass(s, to);
+    if x.star != 0 {
+        return checked(s);
+    }
+    if 127 < x.top {
+        return checked(s);
+    }
+    if x.sum == found {
+        let talker = Talker(s[1], s[2]);
+        return Framed::Is(Sentence::new(talker, kind, found, DATA, to));
+    }
+    Framed::Refused(Refusal::Checksum(x.sum, found))
+}
+
+// The frame of any line. One that ends with its checksum is gone through once, and an unknown type is answered at once; whatever does
+// not fit is checked.
+pub fn parse_nmea_sentence(s: &[u8]) -> Framed
+    ensures { λ r. ⌜ (framed (now (s .entry)) r ≡ frame (now (s .entry))) × (now (s .exit) ≡ now (s .entry)) ⌝ }
+{
+    let len = s.len();
+    if len < SHORTEST {
+        return checked(s);
+    }
+    if Sentence::MAX_LEN < len {
+        return checked(s);
+    }
+    if s[0] != b'$' {
+        return checked(s);
+    }
+    let kind = Kind(s[3], s[4], s[5]);
+    if !known(kind) {
+        if utf8::is_ascii(s) {
+            return Framed::Refused(Refusal::UnknownType);
+        }
+        return checked(s);
+    }
+    if s[6] != b',' {
+        return checked(s);
+    }
+    let to = len - 3;
+    let Digits::Is(found) = checksum_field(s, to) else {
+        return checked(s);
+    };
+    passed(s, kind, found, to)
 }
 
 // The data of a line, a part of it; an empty part where the line is refused.

@@ -20,7 +20,7 @@ use Rattle.frame.specs.Types.{types, listed}
 use Rattle.frame.specs.Checksum.{checksum}
 use Rattle.frame.specs.Digits.{digit, leadDigit, sixteens, hex}
 use Rattle.frame.specs.Frame.{maxLength, dataFrom, Parts, refused, checksumField, sentence, compared, frame}
-use Rattle.frame.specs.Code.{marked, Enclosed}
+use Rattle.frame.specs.Code.{marked, Headed}
 use Rattle.frame.specs.Answer.{field}
 use Rattle.frame.specs.declared.sum.Digits.{Digits as Found}
 use Rattle.frame.specs.declared.sum.Digits.the-variants.{Is as AreDigits}
@@ -46,6 +46,13 @@ pub ends-with : {s : List ℕ} {to : ℕ} {r : Found} {v : ℕ} → Reads s to c
     → checksumField (drop to s) ≡ got v []
 ends-with {s} {to} {r} {v} t e h = took t (ap (field to) e) .reads ∙ ap (got v) (ended s (to + 3) h)
 
+-- a line that begins as a sentence does, and ends at `to` with `*` and digits of the number `found`
+pub record Enclosed (s kind : List ℕ) (found to : ℕ) : Type 0 where
+  pub head : Headed s kind
+  pub comma : getD s 6 0 ≡ byte ","
+  pub end : to + 3 ≡ length s
+  pub digits : checksumField (drop to s) ≡ got found []
+
 -- past `$`, and then past the head
 past-head : (l : List ℕ) → drop 6 (drop 1 l) ≡ drop dataFrom l
 past-head [] = refl
@@ -70,6 +77,9 @@ module _ (s : List ℕ) where
     abbrev pub parts-in : Parts
     parts-in = record { talker = getD s 1 0 ∷ getD s 2 0 ∷ []; kind = kind; checksum = found; from = dataFrom; to = to; text = slice dataFrom to s }
 
+    room : dataFrom ≤ to
+    room = omega (arith, h .end, h .head .long)
+
     tail : Digits (drop to s) found []
     tail = was-field (drop to s) found [] (h .digits)
 
@@ -78,25 +88,25 @@ module _ (s : List ℕ) where
 
     data-on : drop 6 s ≡ byte "," ∷ (slice dataFrom to s ++ (byte "*" ∷ tail .y ∷ tail .z ∷ []))
     data-on =
-        here s 6 (omega (arith, h .end, h .room))
+        here s 6 (omega (arith, h .head .long))
         ∙ ap (λ (x : ℕ). x ∷ drop dataFrom s) (h .comma)
-        ∙ ap (λ (l : List ℕ). byte "," ∷ l) (cut s dataFrom to (h .room) (omega (arith, h .end)) ∙ ap (λ (l : List ℕ). slice dataFrom to s ++ l) (tail .line))
+        ∙ ap (λ (l : List ℕ). byte "," ∷ l) (cut s dataFrom to room (omega (arith, h .end)) ∙ ap (λ (l : List ℕ). slice dataFrom to s ++ l) (tail .line))
 
     lined : s ≡ line-of (getD s 1 0) (getD s 2 0) (getD s 3 0) (getD s 4 0) (getD s 5 0) (slice dataFrom to s) (tail .y) (tail .z) []
     lined =
-        headed (omega (arith, h .end, h .room)) (h .dollar)
+        headed (omega (arith, h .head .long)) (h .head .dollar)
         ∙ ap (λ (l : List ℕ). byte "$" ∷ getD s 1 0 ∷ getD s 2 0 ∷ getD s 3 0 ∷ getD s 4 0 ∷ getD s 5 0 ∷ l) data-on
 
     data-long : dataFrom + length (slice dataFrom to s) ≡ to
     data-long =
         let g : length (slice dataFrom to s) ≡ to - dataFrom = simp (length-drop, length-take) (omega (arith, h .end)) in
-        omega (arith, h .room)
+        omega (arith, room)
 
     read-whole : marked 0 (slice 1 to s) ≡ 0 → sentence s ≡ got parts-in []
     read-whole m =
         ap sentence lined
-        ∙ line-back _ _ _ _ _ (rw (h .letters) at (h .known)) (tail .y) (tail .z) [] (data-clear m) (tail .digits)
-        ∙ rw (data-long, h .letters)
+        ∙ line-back _ _ _ _ _ (rw (h .head .letters) at (h .head .known)) (tail .y) (tail .z) [] (data-clear m) (tail .digits)
+        ∙ rw (data-long, h .head .letters)
 
     low : {top : ℕ} → top ≤ 127 → ascii s ≡ (ltb top 0x80 && ascii (drop to s)) → ascii s ≡ true
     low {top} k a = a ∙ rw (lt-ltb top 0x80 (omega arith), tail .line) (ascii-digits (tail .y) (tail .z) (tail .digits))
@@ -104,4 +114,4 @@ module _ (s : List ℕ) where
     -- what one pass finds decides
     pub enclosed-frame : {top : ℕ} → marked 0 (slice 1 to s) ≡ 0 → top ≤ 127 → ascii s ≡ (ltb top 0x80 && ascii (drop to s))
         → frame s ≡ compared (checksum (slice 1 to s)) parts-in
-    enclosed-frame m k a = frame-ascii s (low k a) ∙ sized-got s (h .short) (read-whole m)
+    enclosed-frame m k a = frame-ascii s (low k a) ∙ sized-got s (h .head .short) (read-whole m)

@@ -1,17 +1,16 @@
 -- For the code, not for a reader of the scope: whether a `*` stands in a text, byte by byte, a digit as a number, which of the types
--- begin with a letter, and a line that begins and ends as a sentence does.
+-- begin with a letter, and a line that begins as a sentence does.
 use Prim.Native.Nat.{ℕ, _+_, _≤_}
 use mathlib.Core.Path.{_≡_}
 use mathlib.Core.Bool.{true, cond}
 use mathlib.Core.List.{List, [], _∷_}
 use mathlib.Core.Option.{Option, none, some}
 use lib.Dec.{eqb}
-use lib.ListN.{length, drop, getD}
+use lib.ListN.{length, getD}
 use lib.Seq.{slice}
 use Rattle.text.specs.Bytes.{byte}
-use Rattle.text.specs.Reader.{got}
 use Rattle.frame.specs.Types.{types, listed}
-use Rattle.frame.specs.Frame.{maxLength, dataFrom, checksumField}
+use Rattle.frame.specs.Frame.{maxLength, dataFrom}
 use Rattle.frame.specs.declared.sentence.Range.{Range}
 
 -- the flag after one byte more: 1 at a `*`
@@ -33,13 +32,10 @@ pub record Begins (a : ℕ) (r : Range) : Type 0 where
   pub within : r .to ≤ length types
   pub all : (b c : ℕ) → listed types (a ∷ b ∷ c ∷ []) ≡ listed (slice (r .from) (r .to) types) (a ∷ b ∷ c ∷ [])
 
--- a line that begins with `$`, two bytes, the known type `kind` and a comma, and that ends at `to` with `*` and digits of the number `found`
-pub record Enclosed (s kind : List ℕ) (found to : ℕ) : Type 0 where
+-- a line of a sentence's length that begins with `$`, two bytes and the known type `kind`
+pub record Headed (s kind : List ℕ) : Type 0 where
+  pub long : dataFrom + 3 ≤ length s
   pub short : length s ≤ maxLength
-  pub room : dataFrom ≤ to
   pub dollar : getD s 0 0 ≡ byte "$"
   pub letters : kind ≡ getD s 3 0 ∷ getD s 4 0 ∷ getD s 5 0 ∷ []
   pub known : listed types kind ≡ true
-  pub comma : getD s 6 0 ≡ byte ","
-  pub end : to + 3 ≡ length s
-  pub digits : checksumField (drop to s) ≡ got found []

@@ -16,7 +16,7 @@ ghost use lib.Seq.{slice};
 ghost use Rattle.frame.specs.Checksum.{checksum};
 ghost use Rattle.frame.specs.Frame.{taken, sentenceType, sentence, compared, sized, frame, dataIn};
 ghost use Rattle.frame.specs.Answer.{letters, talkerAt, kindAt, read, parts, framed};
-ghost use Rattle.frame.specs.Code.{Enclosed};
+ghost use Rattle.frame.specs.Code.{Headed};
 
 // Where the data begin, after `$`, talker, type and comma.
 const DATA: usize = 7;
@@ -155,11 +155,18 @@ fn checked(s: &[u8]) -> Framed
     Framed::Refused(Refusal::BadUtf8)
 }
 
-// The frame of a line that begins and ends as a sentence does: one pass tells what stands between, and the checksum.
-fn passed(s: &[u8], kind: Kind, found: u8, to: usize) -> Framed
-    requires { ⌜ Enclosed (now s) (letters kind) found to ⌝ }
+// The frame of a line that begins with `$` and a known type. Where its checksum ends it, one pass tells the rest.
+fn passed(s: &[u8], kind: Kind) -> Framed
+    requires { ⌜ Headed (now s) (letters kind) ⌝ }
     ensures { λ r. ⌜ (framed (now (s .entry)) r ≡ frame (now (s .entry))) × (now (s .exit) ≡ now (s .entry)) ⌝ }
 {
+    if s[6] != b',' {
+        return checked(s);
+    }
+    let to = s.len() - 3;
+    let Digits::Is(found) = checksum_field(s, to) else {
+        return checked(s);
+    };
     let x = one_pass(s, to);
     if x.star != 0 {
         return checked(s);
@@ -175,7 +182,7 @@ fn passed(s: &[u8], kind: Kind, found: u8, to: usize) -> Framed
 }
 
 // The frame of any line. One that ends with its checksum is gone through once, and an unknown type is answered at once; whatever does
-// not fit is checked.
+// not fit is checked. Behind more tests than these the compiler takes the call of `passed` for a cold one, and does not inline it.
 pub fn parse_nmea_sentence(s: &[u8]) -> Framed
     ensures { λ r. ⌜ (framed (now (s .entry)) r ≡ frame (now (s .entry))) × (now (s .exit) ≡ now (s .entry)) ⌝ }
 {
@@ -190,20 +197,13 @@ pub fn parse_nmea_sentence(s: &[u8]) -> Framed
         return checked(s);
     }
     let kind = Kind(s[3], s[4], s[5]);
-    if !known(kind) {
-        if utf8::is_ascii(s) {
-            return Framed::Refused(Refusal::UnknownType);
-        }
+    if known(kind) {
+        return passed(s, kind);
+    }
+    if !utf8::is_ascii(s) {
         return checked(s);
     }
-    if s[6] != b',' {
-        return checked(s);
-    }
-    let to = len - 3;
-    let Digits::Is(found) = checksum_field(s, to) else {
-        return checked(s);
-    };
-    passed(s, kind, found, to)
+    Framed::Refused(Refusal::UnknownType)
 }
 
 // The data of a line, a part of it; an empty part where the line is refused.

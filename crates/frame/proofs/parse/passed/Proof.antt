@@ -1,41 +1,68 @@
--- Where no `*` stands before that of the end and all is ASCII, the line is a sentence, and its checksum decides; any other is checked.
+-- A line that ends with its checksum, has no `*` before that and is ASCII is a sentence, and its checksum decides; any other is checked.
 -- Assumes nothing.
+use Prim.Native.Nat.{ℕ, _-_}
+use native.Mathlib.Omega.{arith}
 use mathlib.Core.Path.{_≡_, refl, sym, _∙_}
+use mathlib.Core.List.{List}
 use denote.Ref.{now}
+use lib.ListN.{length}
 use lib.Seq.{slice}
 use borrow.Author.Needs.{needs}
 use Rattle.frame.specs.Checksum.{checksum}
 use Rattle.frame.specs.Frame.{compared, frame}
+use Rattle.frame.specs.Answer.{letters}
 use Rattle.frame.proofs.Judged.{sums-equal, sums-differ}
-use Rattle.frame.proofs.Quick.{parts-in, enclosed-frame}
+use Rattle.frame.proofs.Quick.{Enclosed, ends-with, parts-in, enclosed-frame}
 use Rattle.frame.proofs.parse.passed.Statement.{statement}
 use Rattle.frame.proofs.parse.passed.Tie as tie
 
-abbrev start : tie.Else2 → tie.Start
-start c = c .before .before .before .before .before .before
+-- behind the pass: the line, the digits' number, and where the checksum stands
+module _ (c : tie.After-one-pass) where
+  abbrev start : tie.Start
+  start = c .before .before .before .before .before .before .before .before
 
--- where neither test sends the line to be checked
-decided : (c : tie.Else2) → let a = start c .args in
-    frame (now (a .s)) ≡ compared (checksum (slice 1 (a .to) (now (a .s)))) (parts-in (now (a .s)) (start c .pre))
+  abbrev line : List ℕ
+  line = now (start .args .s)
+
+  abbrev found : ℕ
+  found = c .before .before .found .given .0 .0
+
+  abbrev to : ℕ
+  to = length line - 3
+
+  enclosed : Enclosed line (letters (start .args .kind)) found to
+  enclosed =
+      let read = c .before .before .before .before in
+      record {
+        head = start .pre;
+        comma = read .before .if1 .left;
+        end = omega (arith, start .pre .long);
+        digits = ends-with (read .checksum-field .ensures .0) (c .before .before .found .given .1) (omega arith);
+      }
+
+-- where neither test behind the pass sends the line to be checked
+decided : (c : tie.Else3) → let p = c .before .before .before .before in
+    frame (line p) ≡ compared (checksum (slice 1 (to p) (line p))) (parts-in (line p) (enclosed p))
 decided c =
-    let pass = c .before .before .before .before .one-pass .ensures in
-    enclosed-frame (now (start c .args .s)) (start c .pre) (sym (pass .1) ∙ c .before .before .if1 .left) (c .if2 .left) (pass .2)
+    let p = c .before .before .before .before in
+    let pass = p .one-pass .ensures in
+    enclosed-frame (line p) (enclosed p) (sym (pass .1) ∙ c .before .before .if2 .left) (c .if3 .left) (pass .2)
 
-returns-3 : tie.Need-returns-3
-returns-3 c =
+returns-5 : tie.Need-returns-5
+returns-5 c =
     let then = c .before .before .before in
     let k = then .before .before in
-    let s = now (start k .args .s) in
-    let sum = k .before .before .before .before .one-pass .ensures .0 in
-    (rw (c .new .ensures) (sums-equal (parts-in s (start k .pre)) sum (then .if3 .taken) ∙ sym (decided k)), refl)
+    let p = k .before .before .before .before in
+    (rw (c .new .ensures) (sums-equal (parts-in (line p) (enclosed p)) (p .one-pass .ensures .0) (then .if4 .taken) ∙ sym (decided k)), refl)
 
-returns-4 : tie.Need-returns-4
-returns-4 c =
+returns-6 : tie.Need-returns-6
+returns-6 c =
     let k = c .before .before in
-    let sum = k .before .before .before .before .one-pass .ensures .0 in
-    (sums-differ (parts-in (now (start k .args .s)) (start k .pre)) sum (c .if3 .left) ∙ sym (decided k), refl)
+    let p = k .before .before .before .before in
+    (sums-differ (parts-in (line p) (enclosed p)) (p .one-pass .ensures .0) (c .if4 .left) ∙ sym (decided k), refl)
 
 pub passed-spec : {M : Type 1} → statement M
 passed-spec = tie.close (tie.spec
-    (λ c κs. search needs) (λ c κs. search needs) (λ c. search needs) (λ c κs. search needs) (λ c. search needs) (λ c. search needs)
-    (λ c. search needs) (λ c κs. search needs) returns-3 returns-4)
+    (λ c. search needs) (λ c κs. search needs) (λ c. search needs) (λ c. search needs) (λ c κs. search needs) (λ c. search needs)
+    (λ c. search needs) (λ c κs. search needs) (λ c. search needs) (λ c κs. search needs) (λ c κs. search needs) (λ c. search needs)
+    (λ c κs. search needs) (λ c. search needs) (λ c. search needs) (λ c. search needs) (λ c κs. search needs) returns-5 returns-6)

@@ -10,6 +10,7 @@ pub mod Until
 pub mod Stars
 pub mod Shape
 pub mod Judged
+pub mod Quick
 pub mod OneByte
 pub mod Worked
 pub mod Within

@@ -93,13 +93,13 @@ was-type l t m e =
         record { letters = rw (← g, ← g′) h; listed = rw (← g) f }
     by u n h false f e = let z : _≡_ {A = ℕ} 0 1 = cc in absurd (omega arith)
 
-record Digits (l : List ℕ) (v : ℕ) (m : List ℕ) : Type 0 where
-  y : ℕ
-  z : ℕ
-  line : l ≡ byte "*" ∷ y ∷ z ∷ m
-  digits : hex (y ∷ z ∷ []) ≡ some v
+pub record Digits (l : List ℕ) (v : ℕ) (m : List ℕ) : Type 0 where
+  pub y : ℕ
+  pub z : ℕ
+  pub line : l ≡ byte "*" ∷ y ∷ z ∷ m
+  pub digits : hex (y ∷ z ∷ []) ≡ some v
 
-was-field : (l : List ℕ) (v : ℕ) (m : List ℕ) → checksumField l ≡ got v m → Digits l v m
+pub was-field : (l : List ℕ) (v : ℕ) (m : List ℕ) → checksumField l ≡ got v m → Digits l v m
 unfolding checksumField orMiss
 was-field l v m e =
     let star = bound (char (byte "*")) _ l v m e in

@@ -34,7 +34,7 @@ unfolding marked mark
 stays [] = refl
 stays (b ∷ l) = ap (λ (f : ℕ). marked f l) (up (eqb b (byte "*"))) ∙ stays l
 
-unmarked : (l : List ℕ) → marked 0 l ≡ 0 → Clear (byte "*") l
+pub unmarked : (l : List ℕ) → marked 0 l ≡ 0 → Clear (byte "*") l
 unfolding marked mark
 unmarked [] e = none
 unmarked (b ∷ l) e = by (eqb b (byte "*")) refl (λ m. unmarked l m) e
@@ -53,7 +53,7 @@ module _ (s : List ℕ) (i to : ℕ) where
   unfolding marked
   all-marked f h = rw (part-over s i to h)
 
-  cut : i ≤ to → to ≤ length s → drop i s ≡ slice i to s ++ drop to s
+  pub cut : i ≤ to → to ≤ length s → drop i s ≡ slice i to s ++ drop to s
   cut h k =
       let g : i ≤ length (take to s) = simp length-take (omega arith) in
       ap (drop i) (sym (take-append-drop to s)) ∙ drop-append-le i (take to s) (drop to s) g

@@ -7,25 +7,28 @@ use mathlib.Core.Path.{_≡_, refl, ap, sym, _∙_}
 use mathlib.Core.Bool.{Bool, true, false, _&&_, _||_, and-eq-true-iff}
 use mathlib.Core.List.{List, [], _∷_, List·Memᴰ, List·Memᴰ·head as head, List·Memᴰ·tail as tail}
 use lib.Dec.{eqb}
-use lib.ListN.{length, drop, getD, drop-of-length-le}
-use lib.Seq.{drop-cons}
+use lib.ListN.{length, take, getD, length-take, drop-of-length-le}
+use lib.Seq.{slice, slice-cons, drop-cons}
 use borrow.Author.Tests.{eq-eqb, ne-eqb, eqb-true}
 use Rattle.frame.specs.Types.{alike, listed}
 
-module _ (ts : List (List ℕ)) (k d : List ℕ) (i : ℕ) where
-  here : i < length ts → listed (drop i ts) k ≡ (alike k (getD ts i d) || listed (drop (i + 1) ts) k)
+-- a part of the list, up to the place `to`
+module _ (ts : List (List ℕ)) (k d : List ℕ) (i to : ℕ) where
+  here : i < to → to ≤ length ts → listed (slice i to ts) k ≡ (alike k (getD ts i d) || listed (slice (i + 1) to ts) k)
   unfolding listed
-  here h = rw (add-one, drop-cons ts i d h)
+  here h w = rw (add-one, slice-cons i to ts d h w)
 
-  pub found : i < length ts → alike k (getD ts i d) ≡ true → listed (drop i ts) k ≡ true
-  found h e = here h ∙ ap (λ (b : Bool). b || listed (drop (i + 1) ts) k) e
+  pub found : i < to → to ≤ length ts → alike k (getD ts i d) ≡ true → listed (slice i to ts) k ≡ true
+  found h w e = here h w ∙ ap (λ (b : Bool). b || listed (slice (i + 1) to ts) k) e
 
-  pub not-here : i < length ts → alike k (getD ts i d) ≡ false → listed (drop i ts) k ≡ listed (drop (i + 1) ts) k
-  not-here h e = here h ∙ ap (λ (b : Bool). b || listed (drop (i + 1) ts) k) e
+  pub not-here : i < to → to ≤ length ts → alike k (getD ts i d) ≡ false → listed (slice i to ts) k ≡ listed (slice (i + 1) to ts) k
+  not-here h w e = here h w ∙ ap (λ (b : Bool). b || listed (slice (i + 1) to ts) k) e
 
-  pub nowhere : length ts ≤ i → listed (drop i ts) k ≡ false
-  unfolding listed
-  nowhere h = rw (drop-of-length-le ts h)
+pub nowhere : (ts : List (List ℕ)) (k : List ℕ) (i to : ℕ) → to ≤ i → listed (slice i to ts) k ≡ false
+unfolding listed
+nowhere ts k i to h =
+    let g : length (take to ts) ≤ i = simp length-take (omega arith) in
+    rw (drop-of-length-le (take to ts) g)
 
 -- three letters, one after the other
 module _ (a b c : ℕ) (t : List ℕ) (three : length t ≡ 3) where

@@ -4,8 +4,8 @@ use native.Mathlib.Omega.{arith}
 use mathlib.Core.Path.{_≡_, refl}
 use mathlib.Core.Bool.{Bool, true, false, cond, _&&_}
 use mathlib.Core.Option.{none, some}
-use lib.Dec.{leb, eqb}
-use borrow.Author.Tests.{le-leb, lt-leb, leb-true, eq-eqb, ne-eqb}
+use lib.Dec.{leb, ltb, eqb}
+use borrow.Author.Tests.{le-leb, lt-leb, leb-true, lt-ltb, ltb-false, eq-eqb, eqb-true, ne-eqb}
 use Rattle.text.specs.Bytes.{byte}
 use Rattle.frame.specs.Digits.{within, digit, leadDigit}
 use Rattle.frame.specs.Code.{orSixteen}
@@ -79,6 +79,25 @@ module _ (b : ℕ) where
       by : (t : Bool) → cond t (some 0) (digit b) ≡ some v → v ≤ 15
       by true e = let z : 0 ≡ v = cc in omega arith
       by false e = digit-low v e
+
+  -- a digit is ASCII
+  pub digit-ascii : {v : ℕ} → digit b ≡ some v → ltb b 0x80 ≡ true
+  digit-ascii e = by (ltb b 0x80) refl
+    where
+      by : (t : Bool) → ltb b 0x80 ≡ t → t ≡ true
+      by true h = refl
+      by false h =
+          let k = ltb-false b 0x80 h in
+          let n = none-above (omega arith) in
+          let z : _≡_ {A = ℕ} 0 1 = cc in
+          absurd (omega arith)
+
+  pub lead-ascii : {v : ℕ} → leadDigit b ≡ some v → ltb b 0x80 ≡ true
+  lead-ascii {v} e = by (eqb b (byte "+")) refl e
+    where
+      by : (t : Bool) → eqb b (byte "+") ≡ t → cond t (some 0) (digit b) ≡ some v → ltb b 0x80 ≡ true
+      by true h e = let k = eqb-true b (byte "+") h in lt-ltb b 0x80 (omega arith)
+      by false h e = digit-ascii e
 
   -- a first byte, by what it is: `+`, or as a digit
   pub lead-plus : b ≡ byte "+" → 0 ≡ orSixteen (leadDigit b)

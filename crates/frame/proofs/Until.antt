@@ -5,7 +5,7 @@ use mathlib.Core.Path.{_≡_, refl, ap, sym, _∙_}
 use mathlib.Core.Bool.{Bool, true, false, cond}
 use mathlib.Core.List.{List, [], _∷_, _++_}
 use lib.Dec.{eqb}
-use lib.ListN.{set}
+use lib.ListN.{drop, set}
 use borrow.Author.Tests.{eq-eqb, ne-eqb, eqb-true, eqb-false}
 use Rattle.text.specs.Reader.{Parse, miss, refuse, got, prepend, until}
 
@@ -51,6 +51,11 @@ module _ (c : ℕ) where
   unfolding until
   until-back l none = rw (eq-eqb c c refl)
   until-back l (more {b} {t} n h) = rw (ne-eqb b c n, until-back l h)
+
+  pub clear-drop : {t : List ℕ} (n : ℕ) → Clear c t → Clear c (drop n t)
+  clear-drop zero h = h
+  clear-drop (suc n) none = none
+  clear-drop (suc n) (more m h) = clear-drop n h
 
   pub clear-set : {t : List ℕ} (i b : ℕ) → Clear c t → (b ≡ c → ⊥) → Clear c (set t i b)
   clear-set i b none n = none

@@ -1,4 +1,5 @@
 // The framing of a line, part by part.
+use crate::pass::one_pass;
 use crate::refusal::Kind;
 use crate::refusal::Refusal;
 use crate::refusal::Talker;
@@ -14,10 +15,14 @@ ghost use Rattle.text.specs.Placed.{Reads};
 ghost use lib.Seq.{slice};
 ghost use Rattle.frame.specs.Checksum.{checksum};
 ghost use Rattle.frame.specs.Frame.{taken, sentenceType, sentence, compared, sized, frame, dataIn};
-ghost use Rattle.frame.specs.Answer.{talkerAt, kindAt, read, parts, framed};
+ghost use Rattle.frame.specs.Answer.{letters, talkerAt, kindAt, read, parts, framed};
+ghost use Rattle.frame.specs.Code.{Headed};
 
 // Where the data begin, after `$`, talker, type and comma.
 const DATA: usize = 7;
+
+// The length of a sentence that has no data.
+const SHORTEST: usize = 10;
 
 // A framed sentence, or why there is none.
 pub enum Framed {
@@ -137,8 +142,8 @@ fn sized(s: &[u8]) -> Framed
     }
 }
 
-// The frame of any line. An ASCII text is valid UTF-8, so a line that is ASCII is asked no more.
-pub fn parse_nmea_sentence(s: &[u8]) -> Framed
+// The frame of any line, check by check. An ASCII text is valid UTF-8, so a line that is ASCII is asked no more.
+fn checked(s: &[u8]) -> Framed
     ensures { λ r. ⌜ (framed (now (s .entry)) r ≡ frame (now (s .entry))) × (now (s .exit) ≡ now (s .entry)) ⌝ }
 {
     if utf8::is_ascii(s) {
@@ -148,6 +153,57 @@ pub fn parse_nmea_sentence(s: &[u8]) -> Framed
         return Framed::Refused(Refusal::NotAscii);
     }
     Framed::Refused(Refusal::BadUtf8)
+}
+
+// The frame of a line that begins with `$` and a known type. Where its checksum ends it, one pass tells the rest.
+fn passed(s: &[u8], kind: Kind) -> Framed
+    requires { ⌜ Headed (now s) (letters kind) ⌝ }
+    ensures { λ r. ⌜ (framed (now (s .entry)) r ≡ frame (now (s .entry))) × (now (s .exit) ≡ now (s .entry)) ⌝ }
+{
+    if s[6] != b',' {
+        return checked(s);
+    }
+    let to = s.len() - 3;
+    let Digits::Is(found) = checksum_field(s, to) else {
+        return checked(s);
+    };
+    let x = one_pass(s, to);
+    if x.star != 0 {
+        return checked(s);
+    }
+    if 127 < x.top {
+        return checked(s);
+    }
+    if x.sum == found {
+        let talker = Talker(s[1], s[2]);
+        return Framed::Is(Sentence::new(talker, kind, found, DATA, to));
+    }
+    Framed::Refused(Refusal::Checksum(x.sum, found))
+}
+
+// The frame of any line. One that ends with its checksum is gone through once, and an unknown type is answered at once; whatever does
+// not fit is checked. Behind more tests than these the compiler takes the call of `passed` for a cold one, and does not inline it.
+pub fn parse_nmea_sentence(s: &[u8]) -> Framed
+    ensures { λ r. ⌜ (framed (now (s .entry)) r ≡ frame (now (s .entry))) × (now (s .exit) ≡ now (s .entry)) ⌝ }
+{
+    let len = s.len();
+    if len < SHORTEST {
+        return checked(s);
+    }
+    if Sentence::MAX_LEN < len {
+        return checked(s);
+    }
+    if s[0] != b'$' {
+        return checked(s);
+    }
+    let kind = Kind(s[3], s[4], s[5]);
+    if known(kind) {
+        return passed(s, kind);
+    }
+    if !utf8::is_ascii(s) {
+        return checked(s);
+    }
+    Framed::Refused(Refusal::UnknownType)
 }
 
 // The data of a line, a part of it; an empty part where the line is refused.

@@ -4,6 +4,7 @@ use crate::refusal::Talker;
 ghost use mathlib.Core.Path.{_≡_};
 ghost use Rattle.frame.specs.Types.{types, alike, listed};
 ghost use Rattle.frame.specs.Answer.{letters, dataOf};
+ghost use Rattle.frame.specs.Code.{Begins};
 
 // `$GPGSA,A,1,,,,*32` has the talker GP, the type GSA, the checksum 0x32, and its data `A,1,,,,` from 7 up to 14.
 pub struct Sentence {
@@ -95,7 +96,33 @@ fn same(kind: Kind, t: [u8; 3]) -> bool
     kind.2 == t[2]
 }
 
-// Whether a type is one of the thirty. The three whose data are read are tried first.
+// A part of the table of types: its first place, and the place after it.
+struct Range {
+    from: usize,
+    to: usize,
+}
+
+// The types in the table that begin with a letter.
+fn beginning(a: u8) -> Range
+    ensures { λ r. ⌜ Begins a r ⌝ }
+{
+    match a {
+        b'A' => Range { from: 0, to: 3 },
+        b'B' => Range { from: 3, to: 6 },
+        b'D' => Range { from: 6, to: 9 },
+        b'G' => Range { from: 9, to: 16 },
+        b'H' => Range { from: 16, to: 17 },
+        b'M' => Range { from: 17, to: 20 },
+        b'R' => Range { from: 20, to: 22 },
+        b'T' => Range { from: 22, to: 24 },
+        b'V' => Range { from: 24, to: 26 },
+        b'W' => Range { from: 26, to: 27 },
+        b'Z' => Range { from: 27, to: 30 },
+        _ => Range { from: 0, to: 0 },
+    }
+}
+
+// Whether a type is one of the thirty. The three whose data are read are tried first, then those that begin with its letter.
 pub fn known(kind: Kind) -> bool
     ensures { λ r. ⌜ r ≡ listed types (letters kind) ⌝ }
 {
@@ -109,8 +136,10 @@ pub fn known(kind: Kind) -> bool
         return true;
     }
     let types = Sentence::TYPES;
-    let mut i: usize = 0;
-    while i < types.len() {
+    let r = beginning(kind.0);
+    let to = r.to;
+    let mut i = r.from;
+    while i < to {
         let t = types[i];
         if same(kind, t) {
             return true;

@@ -12,7 +12,7 @@ ghost use Rattle.text.specs.Answer.{part};
 ghost use Rattle.frame.specs.Code.{mark, marked};
 
 // The flag after one byte more: up at a `*`.
-fn mark(flag: u8, b: u8) -> u8
+pub(crate) fn mark(flag: u8, b: u8) -> u8
     ensures { λ r. ⌜ r ≡ mark flag b ⌝ }
 {
     if b == b'*' {

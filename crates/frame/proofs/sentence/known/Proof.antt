@@ -1,11 +1,10 @@
 -- The table of the code is the list of the definition. The invariant: the type is in the list exactly where it is in what is left
--- of it, since no type passed is alike. The types that are tried first are in the list. Assumes nothing.
+-- of the part that begins with its letter, since no type passed is alike. The types that are tried first are in the list.
+-- Assumes nothing.
 use Prim.Native.Nat.{_≤_, _-_}
-use native.Mathlib.Omega.{arith}
 use mathlib.Core.Path.{_≡_, refl, sym, _∙_}
 use mathlib.Core.Bool.{true}
-use mathlib.Core.List.{[]}
-use lib.ListN.{drop}
+use lib.Seq.{slice}
 use borrow.Author.Needs.{needs}
 use Rattle.text.specs.Bytes.{bytes}
 use Rattle.frame.specs.Types.{types, alike, listed}
@@ -15,10 +14,10 @@ use Rattle.frame.proofs.sentence.known.Statement.{statement}
 use Rattle.frame.proofs.sentence.known.Tie as tie
 
 abbrev Inv-loop : tie.InvT-loop
-Inv-loop kind table i₀ i = (i ≤ 30) × (table ≡ types) × (listed types (letters kind) ≡ listed (drop i types) (letters kind))
+Inv-loop kind table to i₀ i = (to ≤ 30) × (table ≡ types) × (listed types (letters kind) ≡ listed (slice i to types) (letters kind))
 
 abbrev μ-loop : tie.MeasureT-loop
-μ-loop kind table i₀ i = 30 - i
+μ-loop kind table to i₀ i = to - i
 
 known-gsv : listed types (bytes "GSV") ≡ true
 unfolding types listed alike
@@ -43,25 +42,26 @@ returns-3 c = sym (as-one types _ (bytes "RMC") known-rmc (sym (c .before .same3
 
 loop-holds : tie.Need-loop-holds Inv-loop μ-loop
 unfolding types
-loop-holds c = (omega arith, refl, refl)
+loop-holds c = let r = c .beginning .ensures in (r .within, refl, r .all _ _)
 
 returns-4 : tie.Need-returns-4 Inv-loop μ-loop
 unfolding types
 returns-4 c =
     let k = c .before .before .before in
-    sym (k .before .loop .inv .2 ∙ found types _ _ _ (k .loop-test .taken) (sym (c .before .same4 .ensures) ∙ c .if4 .taken))
+    let v = k .before .loop .inv in
+    sym (v .2 ∙ found types _ _ _ _ (k .loop-test .taken) (v .0) (sym (c .before .same4 .ensures) ∙ c .if4 .taken))
 
 loop-again : tie.Need-loop-again Inv-loop μ-loop
 unfolding types
 loop-again c =
     let k = c .before .before .before in
-    (omega arith, refl, k .before .loop .inv .2 ∙ not-here types _ _ _ (k .loop-test .taken) (sym (c .before .same4 .ensures) ∙ c .if4 .left))
+    let v = k .before .loop .inv in
+    (v .0, refl, v .2 ∙ not-here types _ _ _ _ (k .loop-test .taken) (v .0) (sym (c .before .same4 .ensures) ∙ c .if4 .left))
 
 returns-5 : tie.Need-returns-5 Inv-loop μ-loop
-unfolding types
-returns-5 c = sym (c .before .loop .inv .2 ∙ nowhere types _ [] _ (c .loop-test .left))
+returns-5 c = sym (c .before .loop .inv .2 ∙ nowhere types _ _ _ (c .loop-test .left))
 
 pub known-spec : {M : Type 1} → statement M
 known-spec = tie.close (tie.spec
-    Inv-loop μ-loop (λ c κs. search needs) returns (λ c κs. search needs) returns-2 (λ c κs. search needs) returns-3 loop-holds
+    Inv-loop μ-loop (λ c κs. search needs) returns (λ c κs. search needs) returns-2 (λ c κs. search needs) returns-3 (λ c κs. search needs) loop-holds
     (λ c. search needs) (λ c. search needs) (λ c κs. search needs) returns-4 (λ c. search needs) (λ c. search needs) loop-again returns-5)

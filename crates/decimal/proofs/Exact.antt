@@ -1,7 +1,7 @@
 -- One operation on two values that are not negative is one rounding of the exact result, by whichever fractions the operands are written. Assumes nothing.
 use mathlib.Core.Path.{_≡_, refl, sym, ap, _∙_, subst}
 use Prim.Native.Nat.{ℕ, _-_, _*_, _^_, _≤_, _<_, min}
-use native.Mathlib.Nat.{mul-one, mul-comm, mul-assoc, mul-left-comm, mul-pos, zero-mul}
+use native.Mathlib.Nat.{mul-one, mul-comm, mul-assoc, mul-left-comm, mul-right-comm, mul-pos, zero-mul}
 use native.Mathlib.Omega.{arith}
 use mathlib.Core.Bool.{Bool, true, false, cond, true≢false}
 use lib.Dec.{T, eqb, le→leb, eqb→eq, lit<}
@@ -12,7 +12,7 @@ use lib.Ieee.Exact.{HasValue}
 use lib.Ieee.Back.{round-whole}
 use lib.Ieee.Scale.{round-same}
 use lib.Ieee.Positive.{first-pos}
-use Rattle.decimal.proofs.Power.{ten-pos, capped}
+use Rattle.decimal.proofs.Power.{ten-pos, parts, capped}
 
 -- ---- whole numbers up to 2 ^ prec
 pub in-float : (f : Format) (n : ℕ) → n ≤ 2 ^ prec f → T (inFloat f (pos n))
@@ -71,3 +71,9 @@ pub divided : (f : Format) (n k : ℕ) {p : ℕ} → n ≤ 2 ^ prec f → k ≤ 
     → div f (ofInt f (pos n)) (ofInt f (pos p)) ≡ round f false n (10 ^ k)
 divided f n k h j i e =
     ap (λ (x : ℕ). div f (ofInt f (pos n)) (ofInt f (pos x))) (capped k j e) ∙ div-whole f n (10 ^ k) h (ten-pos k) i
+
+-- digits scaled to billionths are the same fraction, and so the same rounding
+pub of-billionths : (f : Format) (n k : ℕ) → k ≤ 9 → round f false (n * 10 ^ (9 - k)) (10 ^ 9) ≡ round f false n (10 ^ k)
+of-billionths f n k h =
+    let e : n * 10 ^ (9 - k) * 10 ^ k ≡ n * 10 ^ 9 = mul-right-comm n (10 ^ (9 - k)) (10 ^ k) ∙ mul-assoc n (10 ^ k) (10 ^ (9 - k)) ∙ ap (λ (x : ℕ). n * x) (parts k 9 h) in
+    round-same f false (n * 10 ^ (9 - k)) (10 ^ 9) n (10 ^ k) (ten-pos 9) (ten-pos k) e

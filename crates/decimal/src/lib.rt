@@ -28,6 +28,9 @@ fn least(a: u32, b: u32) -> u32
 // The most decimals of a decimal, and so the highest power of ten.
 const DECIMALS: u32 = 9;
 
+// Ten to that power.
+const BILLION: u64 = 1000000000;
+
 // The most digits of a short decimal; of a long one, in all and before the point.
 const SHORT: u32 = 7;
 
@@ -193,12 +196,12 @@ pub enum LongAt {
     Number,
 }
 
-// The f64 nearest to size / 10 ^ k, by one division of exact operands.
-fn nearest_f64(size: u64, k: u32) -> f64
-    requires { ⌜ (size < 1000000000000) × (k ≤ 9) ⌝ }
-    ensures { λ r. ⌜ r ≡ round binary64 false size (10 ^ k) ⌝ }
+// The f64 nearest to so many billionths, by one division of exact operands.
+fn nearest_f64(billionths: u64) -> f64
+    requires { ⌜ billionths < 1000000000000 ⌝ }
+    ensures { λ r. ⌜ r ≡ round binary64 false billionths (10 ^ 9) ⌝ }
 {
-    (size as f64) / (pow10(k) as f64)
+    (billionths as f64) / (BILLION as f64)
 }
 
 // A long decimal place: minutes of arc, seconds.
@@ -209,7 +212,7 @@ pub fn long_decimal(s: &[u8], at: usize) -> LongAt
         DecimalAt::Absent(p) => LongAt::Absent(p),
         DecimalAt::Is(n, k, p) => {
             let billionths = n * pow10(DECIMALS - k);
-            let value = nearest_f64(n, k);
+            let value = nearest_f64(billionths);
             LongAt::Is(
                 LongDecimal {
                     size: n,

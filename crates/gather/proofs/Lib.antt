@@ -1,5 +1,6 @@
 pub mod Tests
 pub mod Greedy
+pub mod Bits
 pub mod Quick
 pub mod Cells
 pub mod Runs

@@ -17,7 +17,7 @@ use Rattle.gsv.specs.Gsv.{Satellite}
 use Rattle.rows.specs.Leave.{upto, readable, allReadable, entrySize, space, leavable}
 use Rattle.rows.proofs.Row.{few-entries}
 use Rattle.gather.specs.Words.{satsFrom, openOf, stands}
-use Rattle.gather.specs.Code.{satWithin, allWithin}
+use Rattle.gather.specs.Code.{satWithin, allWithin, shortMax}
 
 -- at the largest numbers that a line can have
 pub readable-is : (es : List Satellite) → allWithin 4294967295 2147483647 es ≡ allReadable es
@@ -25,30 +25,30 @@ readable-is [] = refl
 readable-is (s ∷ es) = ap (λ (b : Bool). readable s && b) (readable-is es)
 
 record Short (s : Satellite) : Type 0 where
-  pub id : s .id ≤ 9999
-  pub elevation : upto 9999 (s .elevation) ≡ true
-  pub azimuth : upto 9999 (s .azimuth) ≡ true
-  pub signal : upto 9999 (s .signal) ≡ true
+  pub id : s .id ≤ shortMax
+  pub elevation : upto shortMax (s .elevation) ≡ true
+  pub azimuth : upto shortMax (s .azimuth) ≡ true
+  pub signal : upto shortMax (s .signal) ≡ true
 
-short : (s : Satellite) → satWithin 9999 9999 s ≡ true → Short s
+short : (s : Satellite) → satWithin shortMax shortMax s ≡ true → Short s
 short s e =
     let (a, e₁) = and-eq-true-iff _ _ .0 e in
     let (b, e₂) = and-eq-true-iff _ _ .0 e₁ in
     let (c, d) = and-eq-true-iff _ _ .0 e₂ in
     record { id = leb-true _ _ a; elevation = b; azimuth = c; signal = d }
 
-wider : (o : Option ℕ) → upto 9999 o ≡ true → upto 2147483647 o ≡ true
+wider : (o : Option ℕ) → upto shortMax o ≡ true → upto 2147483647 o ≡ true
 wider none e = refl
-wider (some n) e = let h : n ≤ 9999 = leb-true n 9999 e in le-leb n 2147483647 (omega arith)
+wider (some n) e = let h : n ≤ shortMax = leb-true n shortMax e in le-leb n 2147483647 (omega arith)
 
-four-digits : (o : Option ℕ) → upto 9999 o ≡ true → length (optText o) ≤ 4
+four-digits : (o : Option ℕ) → upto shortMax o ≡ true → length (optText o) ≤ 4
 four-digits none e = omega arith
-four-digits (some n) e = let h : n ≤ 9999 = leb-true n 9999 e in few-digits n 4 (omega arith) (omega arith)
+four-digits (some n) e = let h : n ≤ shortMax = leb-true n shortMax e in few-digits n 4 (omega arith) (omega arith)
 
-pub short-readable : (es : List Satellite) → allWithin 9999 9999 es ≡ true → allReadable es ≡ true
+pub short-readable : (es : List Satellite) → allWithin shortMax shortMax es ≡ true → allReadable es ≡ true
 short-readable [] e = refl
 short-readable (s ∷ es) e =
-    let (f, g) = and-eq-true-iff (satWithin 9999 9999 s) _ .0 e in
+    let (f, g) = and-eq-true-iff (satWithin shortMax shortMax s) _ .0 e in
     let h = short s f in
     and-eq-true-iff (readable s) _ .1 (
       and-eq-true-iff _ _ .1 (
@@ -61,7 +61,7 @@ short-readable (s ∷ es) e =
       short-readable es g,
     )
 
-short-entry : (s : Satellite) → satWithin 9999 9999 s ≡ true → entrySize s ≤ 20
+short-entry : (s : Satellite) → satWithin shortMax shortMax s ≡ true → entrySize s ≤ 20
 short-entry s e =
     let h = short s e in
     omega (
@@ -74,12 +74,12 @@ short-entry s e =
     )
 
 -- behind c short entries there is room for one more, until there are four
-fours : (room : ℕ) → 80 ≤ room → (es : List Satellite) → allWithin 9999 9999 es ≡ true → (c u k : ℕ) → c ≤ 4 → u ≤ 20 * c
+fours : (room : ℕ) → 80 ≤ room → (es : List Satellite) → allWithin shortMax shortMax es ≡ true → (c u k : ℕ) → c ≤ 4 → u ≤ 20 * c
     → length es ≤ 4 - c + 4 * k → more entrySize room c u es ≤ k
 unfolding more
 fours room r [] e c u k hc hu h = omega arith
 fours room r (s ∷ es) e c u k hc hu h =
-    let (f, g) = and-eq-true-iff (satWithin 9999 9999 s) _ .0 e in
+    let (f, g) = and-eq-true-iff (satWithin shortMax shortMax s) _ .0 e in
     by (short-entry s f) (ltb c 4) (leb (u + entrySize s) room) refl refl (λ c' u' k'. fours room r es g c' u' k')
   where
     by : entrySize s ≤ 20 → (a b : Bool) → ltb c 4 ≡ a → leb (u + entrySize s) room ≡ b
@@ -100,7 +100,7 @@ pub short-room : (v : ℕ) → v ≤ 65535 → 80 ≤ space v
 short-room v h = omega (arith, few-digits v 5 (omega arith) (omega arith))
 
 -- so the test of the pieces counts
-pub counts : (v : ℕ) (es : List Satellite) (j : ℕ) → v ≤ 65535 → allWithin 9999 9999 es ≡ true
+pub counts : (v : ℕ) (es : List Satellite) (j : ℕ) → v ≤ 65535 → allWithin shortMax shortMax es ≡ true
     → leb (length es) (4 * j) ≡ leb (pieceCount entrySize (space v) es) j
 counts v es j h e = by (leb (length es) (4 * j)) refl
   where
@@ -153,7 +153,7 @@ head-stands ws h =
     && (le-leb (getD ws 1 0) (getD ws 0 0) (h .open') j
     && (le-leb (getD ws 0 0) 9 (h .high) j && (le-leb (getD ws 2 0) 65535 (h .view) j && (allReadable (sats ws) && packed ws)))))
 
-pub short-stands : (ws : List ℕ) → Head ws → allWithin 9999 9999 (sats ws) ≡ true → leb (getD ws 3 0) (4 * (getD ws 1 0 - 1)) ≡ stands ws
+pub short-stands : (ws : List ℕ) → Head ws → allWithin shortMax shortMax (sats ws) ≡ true → leb (getD ws 3 0) (4 * (getD ws 1 0 - 1)) ≡ stands ws
 short-stands ws h e =
     ap (λ (k : ℕ). leb k (4 * (getD ws 1 0 - 1))) (sym (sats-long 0 (getD ws 3 0) ws))
     ∙ counts (getD ws 2 0) (sats ws) (getD ws 1 0 - 1) (h .view) e

@@ -4,6 +4,7 @@ use mathlib.Core.Path.{_≡_}
 use mathlib.Core.List.{List, [], _∷_}
 use mathlib.Core.Bool.{Bool, true, false, _&&_, cond}
 use mathlib.Core.Option.{Option, none, some}
+use lib.Bits.{bitOr}
 use lib.Dec.{eqb, leb, ltb}
 use lib.ListN.{length, getD}
 use lib.Seq.{sets}
@@ -13,7 +14,7 @@ use Rattle.short.specs.Texts.{optText}
 use Rattle.gsv.specs.Gsv.{Satellite, Head}
 use Rattle.pack.specs.Cut.{entryMax}
 use Rattle.rows.specs.Leave.{upto, entrySize}
-use Rattle.gather.specs.Words.{cellCount, cellAt, flat, stands}
+use Rattle.gather.specs.Words.{cellCount, cellAt, numberOf, flat, stands}
 use Rattle.gather.specs.Heads.{runStands}
 use Rattle.gather.specs.declared.lent.Pile.{Pile}
 use Rattle.gather.specs.declared.line.Before.{Before}
@@ -49,6 +50,19 @@ satWithin a b s = leb (s .id) a && (upto b (s .elevation) && (upto b (s .azimuth
 abbrev pub allWithin : ℕ → ℕ → List Satellite → Bool
 allWithin a b [] = true
 allWithin a b (s ∷ ss) = satWithin a b s && allWithin a b ss
+
+-- the largest number of a short entry, any four of which go into one line
+abbrev pub shortMax : ℕ
+shortMax = 8190
+
+-- the bits of a satellite's numbers, each raised by one, so that what is absent counts nothing; and its own number's, which is never absent
+abbrev pub raised : Option ℕ → ℕ
+raised none = 0
+raised (some n) = n + 1
+
+abbrev pub satBits : Satellite → ℕ
+satBits s =
+    bitOr (bitOr (bitOr (bitOr (s .id) (raised (numberOf (s .id)))) (raised (s .elevation))) (raised (s .azimuth))) (raised (s .signal))
 
 -- a line's n, number and in-view count decide alone what it goes on with
 abbrev pub headed : ℕ → ℕ → ℕ → Gsv Satellite

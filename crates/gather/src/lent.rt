@@ -5,7 +5,7 @@ ghost use lib.ListN.{length};
 ghost use Rattle.pack.specs.Cut.{pieceCount};
 ghost use Rattle.rows.specs.Leave.{upto, entrySize, space};
 ghost use Rattle.gather.specs.Words.{rowWords, cellCount, numberOf, satAt, satsFrom, stands};
-ghost use Rattle.gather.specs.Code.{satWithin, allWithin, Digits, OptDigits, Sized, putOn, Puts};
+ghost use Rattle.gather.specs.Code.{satWithin, allWithin, shortMax, raised, satBits, Digits, OptDigits, Sized, putOn, Puts};
 
 // The words of a row: its head, and a cell of four words for each entry of nine lines of four.
 pub const ROW: usize = HEAD + CELLS * CELL;
@@ -46,8 +46,9 @@ const COMMAS: usize = 4;
 // The word of what is absent.
 pub const ABSENT: u32 = 4294967295;
 
-// Numbers that short entries have: any four such entries go into one line.
-const SHORT: u32 = 9999;
+// The numbers of short entries are below this: any four such entries go into one line. All its bits are set, so that the bits of several
+// numbers, or'ed, exceed it exactly where one of the numbers does.
+const SHORT: u32 = 8191;
 
 fn within(x: u32, max: u32) -> bool
     ensures { λ r. ⌜ r ≡ upto max (numberOf x) ⌝ }
@@ -83,6 +84,56 @@ fn all_within(row: &[u32], count: usize, ids: u32, max: u32) -> bool
     let mut i = 0;
     while i < count {
         if !cell_within(row, i, ids, max) {
+            return false;
+        }
+        i += 1;
+    }
+    true
+}
+
+// One more than a number, and nothing for an absent one. Both answers are one sum that wraps.
+fn raised(x: u32) -> u32
+    ensures { λ r. ⌜ r ≡ raised (numberOf x) ⌝ }
+{
+    if x == ABSENT {
+        return 0;
+    }
+    x + 1
+}
+
+// The bits of the numbers of cell i, each raised, and those of its satellite, which is never absent. The satellite is raised too so that
+// the four words are alike: they are then taken by one instruction.
+fn cell_bits(row: &[u32], i: usize) -> u32
+    requires { ⌜ (length (now row) ≡ rowWords) × (i < cellCount) ⌝ }
+    ensures { λ r. ⌜ r ≡ satBits (satAt (now (row .entry)) i) ⌝ }
+{
+    let at = HEAD + i * CELL;
+    let id = row[at];
+    id
+        | raised(id)
+        | raised(row[at + ELEVATION])
+        | raised(row[at + AZIMUTH])
+        | raised(row[at + SIGNAL])
+}
+
+// Whether the first count of the cells have short entries: a line's cells at once, and then one by one.
+fn all_short(row: &[u32], count: usize) -> bool
+    requires { ⌜ (length (now row) ≡ rowWords) × (count ≤ cellCount) ⌝ }
+    ensures { λ r. ⌜ r ≡ allWithin shortMax shortMax (satsFrom 0 count (now (row .entry))) ⌝ }
+{
+    let mut i = 0;
+    while i + ENTRIES <= count {
+        let bits = cell_bits(row, i)
+            | cell_bits(row, i + 1)
+            | cell_bits(row, i + 2)
+            | cell_bits(row, i + 3);
+        if SHORT < bits {
+            return false;
+        }
+        i += ENTRIES;
+    }
+    while i < count {
+        if SHORT < cell_bits(row, i) {
             return false;
         }
         i += 1;
@@ -207,7 +258,7 @@ pub fn row_stands(row: &[u32]) -> bool
         return false;
     }
     let came = next as usize - 1;
-    if all_within(row, count, SHORT, SHORT) {
+    if all_short(row, count) {
         return count <= ENTRIES * came;
     }
     if !all_within(row, count, gsv::ID_MAX, gsv::PLACE_MAX) {

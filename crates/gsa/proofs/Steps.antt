@@ -7,7 +7,7 @@ use lib.ListN.{take}
 use Rattle.text.specs.Reader.{Reader, _>>=_, alt, orMiss, Number}
 use Rattle.text.specs.Placed.{Placed, unread, refused, upto, Reads}
 use Rattle.text.proofs.Places.{stop, fail, go, alt-first, alt-second, miss-none, miss-some, done}
-use Rattle.text.proofs.Steps.{stop-next, go-next, stop-letter, go-letter, go-field}
+use Rattle.text.proofs.Steps.{stop-next, go-next, stop-letter, go-letter}
 use Rattle.decimal.specs.Places.{Short}
 use Rattle.decimal.specs.Answer.{aShort}
 use Rattle.decimal.proofs.Steps.{fail-short, go-no-short, go-short}
@@ -81,4 +81,4 @@ pub some-is : {A : Type 0} {s : List ℕ} {p : ℕ} {a : A} → Reads s p (orMis
 some-is = miss-some refl
 
 pub ruleset steps =
-    (stop-next, go-next, stop-letter, go-letter, go-field, fail-short, go-no-short, go-short, stop-dop, fail-dop, go-dop, stop-dops, fail-dops, go-dops, go-prns, go-system, go-empty, stop-tail, fail-tail, go-tail, no-some, some-is, done)
+    (stop-next, go-next, stop-letter, go-letter, fail-short, go-no-short, go-short, stop-dop, fail-dop, go-dop, stop-dops, fail-dops, go-dops, go-prns, go-system, go-empty, stop-tail, fail-tail, go-tail, no-some, some-is, done)

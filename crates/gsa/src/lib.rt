@@ -189,17 +189,20 @@ fn empty_tail(s: &[u8], at: usize) -> Ending
     last_system(s, at)
 }
 
-// An item: an optional number and a comma.
+// An item: an optional number and a comma. Whether it is empty is asked first.
 fn prn_field(s: &[u8], at: usize) -> Item
     ensures { λ r. ⌜ Reads (now (s .entry)) at item (itemAt r) × (now (s .exit) ≡ now (s .entry)) ⌝ }
 {
-    let f = text::opt_number(s, at, ITEM_MAX);
-    let at = f.at;
+    if let Next::At(next) = text::byte(s, at, b',') {
+        return Item::Is(Held::Absent, next);
+    }
+    let Whole::Is(n, at) = text::number(s, at, ITEM_MAX) else {
+        return Item::No;
+    };
     let Next::At(at) = text::byte(s, at, b',') else {
         return Item::No;
     };
-    let v = f.value;
-    Item::Is(v, at)
+    Item::Is(Held::Known(n), at)
 }
 
 // Items while they match. Of the first 18 the filled ones are kept.

@@ -7,11 +7,12 @@ use mathlib.Core.List.{List, [], _∷_, _++_}
 use mathlib.Core.Option.{Option, none, some}
 use lib.ListN.{length, take, drop, getD, length-drop}
 use lib.Dec.{leb, ltb, eqb}
-use borrow.Author.Tests.{le-leb, lt-leb, leb-true, ltb-true, ltb-false, lt-ltb, le-ltb, ne-eqb}
+use borrow.Author.Tests.{le-leb, lt-leb, leb-true, ltb-true, ltb-false, lt-ltb, le-ltb, eq-eqb, ne-eqb}
+use Rattle.text.specs.Bytes.{byte}
 use Rattle.text.specs.Reader.{Parse, miss, got}
 use Rattle.text.specs.Number.{isDigit, leadingDigits, afterDigits, valueFrom, fixed, twoBytes, threeBytes, unsigned, upTo, written}
 use Rattle.text.proofs.Places.{here}
-use Rattle.text.specs.Code.{unit, leadUnit}
+use Rattle.text.specs.Code.{unit}
 
 pub digit-top : (b : ℕ) → isDigit b ≡ true → b ≤ 57
 digit-top b e = by (leb 48 b) (leb b 57) refl e
@@ -53,6 +54,28 @@ unit-is b e = by (leb 48 b) (leb b 57) refl e
     by : (t u : Bool) → leb 48 b ≡ t → (t && u) ≡ true → unit b ≡ b - 48
     by true u f e = unit-high b (leb-true 48 b f)
     by false u f e = let z : _≡_ {A = ℕ} 0 1 = cc in absurd (omega arith)
+
+-- what a first byte counts: `+` in front counts nothing
+abbrev leadUnit : ℕ → ℕ
+leadUnit b = cond (eqb b (byte "+")) 0 (unit b)
+
+-- a first byte that counts `a`
+pub record Lead (b a : ℕ) : Type 0 where
+  pub counts : a ≡ leadUnit b
+  pub small : a ≤ 9
+
+pub plus-leads : (b : ℕ) {a : ℕ} → b ≡ byte "+" → a ≡ 0 → Lead b a
+plus-leads b e f = record { counts = rw (eq-eqb b (byte "+") e) f; small = omega arith }
+
+-- `+` is no digit, so a digit counts what it does elsewhere
+pub digit-leads : (b : ℕ) {u a : ℕ} → u ≡ unit b → u ≤ 9 → a ≡ u → Lead b a
+digit-leads b {u} {a} e h f = record { counts = rw (ne-eqb b (byte "+") no-plus) (f ∙ e); small = omega arith }
+  where
+    no-plus : b ≡ byte "+" → ⊥
+    no-plus g = omega (arith, unit-low b (omega arith))
+
+pub none-leads : (b : ℕ) {u : ℕ} → u ≡ unit b → 9 < u → (b ≡ byte "+" → ⊥) → 9 < leadUnit b
+none-leads b e h n = rw (ne-eqb b (byte "+") n) (omega arith)
 
 two-of : (a b : ℕ) (l : List ℕ) → twoBytes (a ∷ b ∷ l) ≡ upTo 255 (unsigned (a ∷ b ∷ [])) l
 unfolding fixed

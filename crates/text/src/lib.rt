@@ -4,7 +4,7 @@ ghost use mathlib.Core.Path.{_≡_};
 ghost use Rattle.text.specs.Reader.{char, oneOf, among, letterOf, opt, until};
 ghost use Rattle.text.specs.Placed.{Reads};
 ghost use Rattle.text.specs.Number.{number, twoBytes, threeBytes};
-ghost use Rattle.text.specs.Code.{unit, leadUnit};
+ghost use Rattle.text.specs.Code.{unit};
 ghost use Rattle.text.specs.Answer.{wholeAt, next, part, lettered, field};
 
 // The next place, or no match.
@@ -173,16 +173,6 @@ pub fn unit(b: u8) -> u32
     (b - b'0') as u32
 }
 
-// The same of a first byte, where `+` counts nothing.
-fn lead_unit(b: u8) -> u32
-    ensures { λ r. ⌜ r ≡ leadUnit b ⌝ }
-{
-    if b == b'+' {
-        return 0;
-    }
-    unit(b)
-}
-
 // Two bytes: digits, or `+` and a digit.
 pub fn two(s: &[u8], at: usize) -> Whole
     ensures { λ r. ⌜ Reads (now (s .entry)) at twoBytes (wholeAt r) × (now (s .exit) ≡ now (s .entry)) ⌝ }
@@ -193,15 +183,18 @@ pub fn two(s: &[u8], at: usize) -> Whole
     if s.len() - 2 < at {
         return Whole::No;
     }
-    let a = lead_unit(s[at]);
-    if 9 < a {
+    let mut tens = unit(s[at]);
+    if 9 < tens {
+        if s[at] != b'+' {
+            return Whole::No;
+        }
+        tens = 0;
+    }
+    let ones = unit(s[at + 1]);
+    if 9 < ones {
         return Whole::No;
     }
-    let b = unit(s[at + 1]);
-    if 9 < b {
-        return Whole::No;
-    }
-    Whole::Is(a * 10 + b, at + 2)
+    Whole::Is(tens * 10 + ones, at + 2)
 }
 
 // Three bytes: digits, or `+` and digits, up to 255.
@@ -214,19 +207,22 @@ pub fn three(s: &[u8], at: usize) -> Whole
     if s.len() - 3 < at {
         return Whole::No;
     }
-    let a = lead_unit(s[at]);
-    if 9 < a {
+    let mut hundreds = unit(s[at]);
+    if 9 < hundreds {
+        if s[at] != b'+' {
+            return Whole::No;
+        }
+        hundreds = 0;
+    }
+    let tens = unit(s[at + 1]);
+    if 9 < tens {
         return Whole::No;
     }
-    let b = unit(s[at + 1]);
-    if 9 < b {
+    let ones = unit(s[at + 2]);
+    if 9 < ones {
         return Whole::No;
     }
-    let c = unit(s[at + 2]);
-    if 9 < c {
-        return Whole::No;
-    }
-    let v = (a * 10 + b) * 10 + c;
+    let v = (hundreds * 10 + tens) * 10 + ones;
     if 255 < v {
         return Whole::No;
     }

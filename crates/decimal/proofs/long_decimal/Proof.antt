@@ -1,32 +1,32 @@
--- `long_decimal` meets its contract: the place is that of `decimal` at the long limits, whose digits are below 10 ^ 12, so that
--- billionths fit and the f64 holds the digits exactly. Assumes nothing.
-use Prim.Native.Nat.{ℕ, _-_, _*_}
+-- `long_decimal` meets its contract: the place is that of `decimal` at the long limits, whose billionths are below 10 ^ 12, so that they
+-- fit, the f64 holds them exactly, and their quotient is that of the digits. Assumes nothing.
+use Prim.Native.Nat.{_-_, _*_, _^_, _<_}
 use native.Mathlib.Omega.{arith}
-use mathlib.Core.Path.{refl, ap}
+use mathlib.Core.Path.{_≡_, refl, ap}
+use lib.Ieee.{binary64}
 use Rattle.text.proofs.Places.{go, fail, done}
 use Rattle.decimal.specs.Decimal.{long}
 use Rattle.decimal.specs.Places.{longDecimal}
 use Rattle.decimal.specs.Answer.{decimalAt}
 use Rattle.decimal.proofs.Power.{capped, minutes-lt}
 use Rattle.decimal.proofs.Bounds.{held}
+use Rattle.decimal.proofs.Exact.{of-billionths}
 use borrow.Author.Needs.{needs}
 use Rattle.decimal.proofs.long_decimal.Statement.{statement}
 use Rattle.decimal.proofs.long_decimal.Tie as tie
 
 sub-pow10 : tie.Need-sub-pow10
-sub-pow10 c = held long (c .before .before .before .decimal .ensures .0) (c .before .n .given .1) .few
+sub-pow10 c = omega (arith, held long (c .before .before .before .decimal .ensures .0) (c .before .n .given .1) .few)
 
-mul-billionths : tie.Need-mul-billionths
-mul-billionths c =
+-- behind the one power of ten: it is that of the decimals which are not written, and the billionths are fewer than 10 ^ 12
+power : (c : tie.After-pow10) → c .pow10 .result ≡ 10 ^ (9 - c .before .before .n .given .0 .1 .0)
+power c = capped _ (omega arith) (c .pow10 .ensures)
+
+few : (c : tie.After-pow10) → c .before .before .n .given .0 .0 * c .pow10 .result < 1000000000000
+few c =
     let h = held long (c .before .before .before .before .decimal .ensures .0) (c .before .before .n .given .1) in
     let n = c .before .before .n .given .0 .0 in
-    let k = c .before .before .n .given .0 .1 .0 in
-    omega (arith, ap (λ (x : ℕ). n * x) (capped (9 - k) (omega arith) (c .pow10 .ensures)), minutes-lt n k (h .front) (h .few))
-
-nearest-f64-requires : tie.Need-nearest-f64-requires
-nearest-f64-requires c κs =
-    let h = held long (c .before .before .before .before .decimal .ensures .0) (c .before .before .n .given .1) in
-    (h .small, h .few)
+    rw (power c) (minutes-lt n _ (h .front) (h .few))
 
 returns : tie.Need-returns
 unfolding longDecimal
@@ -37,8 +37,9 @@ unfolding longDecimal
 returns-2 c =
     let t = c .before .before .before .before .before .decimal .ensures .0 in
     let e = c .before .before .before .n .given .1 in
+    let n = c .before .before .before .n .given .0 .0 in
     let k = c .before .before .before .n .given .0 .1 .0 in
-    (rw (capped (9 - k) (omega arith) (c .before .pow10 .ensures), c .nearest-f64 .ensures) (go _ t (ap decimalAt e) (done _ _ _)), refl)
+    (rw (c .nearest-f64 .ensures, power (c .before), of-billionths binary64 n k (held long t e .few)) (go _ t (ap decimalAt e) (done _ _ _)), refl)
 
 returns-3 : tie.Need-returns-3
 unfolding longDecimal
@@ -46,5 +47,5 @@ returns-3 c = (fail _ (c .before .before .decimal .ensures .0) (ap decimalAt (c 
 
 pub long-decimal-spec : {M : Type 1} → statement M
 long-decimal-spec = tie.close (tie.spec
-    (λ c κs. search needs) (λ c. search needs) (λ c. search needs) sub-pow10 (λ c κs. search needs) mul-billionths nearest-f64-requires
+    (λ c κs. search needs) (λ c. search needs) (λ c. search needs) sub-pow10 (λ c κs. search needs) (λ c. omega (arith, few c)) (λ c κs. few c)
     (λ c. search needs) returns returns-2 returns-3)

@@ -2,20 +2,18 @@
 -- rounding. Assumes nothing.
 use native.Mathlib.Omega.{arith}
 use lib.Ieee.{binary64}
-use Rattle.decimal.proofs.Power.{under, capped}
-use Rattle.decimal.proofs.Exact.{in-float, divided}
-use borrow.Author.Needs.{needs}
+use Rattle.decimal.proofs.Exact.{in-float, div-whole}
 use Rattle.decimal.proofs.nearest_f64.Statement.{statement}
 use Rattle.decimal.proofs.nearest_f64.Tie as tie
 
 int-to-float-result : tie.Need-int-to-float-result
-int-to-float-result c = in-float binary64 (c .before .args .size) (omega arith)
+int-to-float-result c = in-float binary64 (c .before .args .billionths) (omega arith)
 
 int-to-float-result-2 : tie.Need-int-to-float-result-2
-int-to-float-result-2 c = let k = c .before .before .before .args .k in in-float binary64 (c .before .pow10 .result) (omega (arith, capped k (omega arith) (c .before .pow10 .ensures), under k 9 (omega arith)))
+int-to-float-result-2 c = in-float binary64 _ (omega arith)
 
 returns : tie.Need-returns
-returns c = let k = c .before .before .before .args .k in divided binary64 (c .before .before .before .args .size) k (omega arith) (omega arith) (omega (arith, under k 9 (omega arith))) (c .before .pow10 .ensures)
+returns c = div-whole binary64 (c .before .args .billionths) 1000000000 (omega arith) (omega arith) (omega arith)
 
 pub nearest-f64-spec : {M : Type 1} → statement M
-nearest-f64-spec = tie.close (tie.spec int-to-float-result (λ c κs. search needs) int-to-float-result-2 returns)
+nearest-f64-spec = tie.close (tie.spec int-to-float-result int-to-float-result-2 returns)

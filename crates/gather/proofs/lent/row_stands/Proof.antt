@@ -68,7 +68,7 @@ returns-7 c =
       view = c .before .before .before .before .if5 .left;
     }
     in
-    (short-stands _ head (sym (c .before .all-within .ensures) ∙ c .if7 .taken), refl)
+    (short-stands _ head (sym (c .before .all-short .ensures) ∙ c .if7 .taken), refl)
 
 returns-8 : tie.Need-returns-8
 returns-8 c =
@@ -81,7 +81,7 @@ returns-8 c =
       view = c .before .before .before .before .before .before .if5 .left;
     }
     in
-    (unreadable _ head (failed _ _ (c .before .all-within2 .ensures) (c .if8 .taken)), refl)
+    (unreadable _ head (failed _ _ (c .before .all-within .ensures) (c .if8 .taken)), refl)
 
 returns-9 : tie.Need-returns-9
 returns-9 c =
@@ -94,7 +94,7 @@ returns-9 c =
       view = c .before .before .before .before .before .before .before .if5 .left;
     }
     in
-    (exact _ _ head (passed _ _ (c .before .before .all-within2 .ensures) (c .before .if8 .left)) (c .pieces .ensures), refl)
+    (exact _ _ head (passed _ _ (c .before .before .all-within .ensures) (c .before .if8 .left)) (c .pieces .ensures), refl)
 
 pub row-stands-spec : {M : Type 1} → statement M
 row-stands-spec = tie.close (tie.spec

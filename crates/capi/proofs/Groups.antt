@@ -17,6 +17,7 @@ use Rattle.gather.specs.Table.{freshTable, rowOf}
 use Rattle.gather.specs.declared.line.Outcome.{Outcome}
 use Rattle.gather.specs.declared.line.Outcome.the-variants.{NoRow, Nothing, Waiting, Complete}
 use Rattle.gather.proofs.Quick.{sats-long}
+use Rattle.core.specs.Brief.{gsvIn}
 use Rattle.fed.specs.Line.{blank, saidOf, saidAll, acceptedGsv, Gathered, gathers}
 use Rattle.fed.specs.Fed.{gathered}
 use Rattle.fed.specs.Seen.{seenOf, handedIn, givenBy, givenAt}
@@ -24,7 +25,7 @@ use Rattle.fed.proofs.Accepted.{some-same}
 use Rattle.fed.proofs.Handing.{map-take, hands-list}
 use Rattle.log.proofs.Quiet.{blank-or-read}
 use Rattle.words.specs.Part.{zeros}
-use Rattle.capi.specs.Lend.{code, lineCode, gsvIn, rowRoom, entriesWords, rowRead}
+use Rattle.capi.specs.Lend.{code, lineCode, rowRoom, entriesWords, rowRead}
 
 -- what stands in the row that a number names
 abbrev pub handedAt : ℕ → List ℕ → Handed Satellite

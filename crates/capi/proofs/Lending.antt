@@ -9,19 +9,12 @@ use borrow.Author.Tests.{eq-eqb, ne-eqb, le-leb, lt-leb, lt-ltb, le-ltb}
 use lib.Dec.{eqb, leb, ltb}
 use lib.ListN.{length, take, drop, getD, set, replicate, length-set, length-append, length-replicate, length-drop, drop-of-length-le}
 use lib.Seq.{sets, sets-eq}
-use Rattle.gsv.specs.Answer.{gsvSentence}
 use Rattle.gsv.specs.Gsv.{Satellite}
 use Rattle.gsv.specs.Talker.{systemNumber}
-use Rattle.answer.specs.Sentence.{answer}
-use Rattle.sentence.specs.Answer.{recordOf, Says}
-use Rattle.gsv.specs.declared.GsvRecord.{GsvRecord}
-use Rattle.sentence.specs.declared.ParseResult.{ParseResult}
-use Rattle.sentence.specs.declared.Record.{Record}
-use Rattle.sentence.specs.declared.Record.the-variants.{Rmc, Gsa, Gsv, Other, Refused}
-use Rattle.rows.specs.Key.{Source, rowFrom, keyOf, rowCount}
-use Rattle.rows.specs.Line.{lineOf}
+use Rattle.answer.specs.Sentence.{Answer, isRmc, isGsa, isGsv, isOther, isRefused, answer}
+use Rattle.rows.specs.Key.{Source, sourceFrom, rowFrom, rowCount}
 use Rattle.gather.specs.Words.{cellCount, numberOf, satAt, satsFrom}
-use Rattle.gather.specs.Table.{tableWords, freshTable, rowOf, Gathers}
+use Rattle.gather.specs.Table.{tableWords, freshTable, rowOf}
 use Rattle.gather.specs.declared.line.Outcome.{Outcome}
 use Rattle.gather.specs.declared.line.Outcome.the-variants.{Complete}
 use Rattle.text.proofs.Stores.{behind, three, four}
@@ -29,14 +22,18 @@ use Rattle.gather.proofs.Cells.{sats-append}
 use Rattle.gather.proofs.Quick.{sats-long}
 use Rattle.gather.proofs.Tables.{number-within}
 use Rattle.fed.specs.Line.{gathers}
+use Rattle.core.specs.Brief.{Brief, accepted, gsvLine, refusal, briefOf, gsvIn}
+use Rattle.core.specs.Answer.{brief, outcomeOf, Takes}
+use Rattle.core.specs.declared.Taken.{Taken}
+use Rattle.core.specs.declared.Taken.the-variants.{Accepted, Gsv, Refused}
 use Rattle.words.specs.Part.{zeros, optionWords}
 use Rattle.words.specs.Gsv.{entryWords}
 use Rattle.words.specs.Words.{wordCount, words, into}
 use Rattle.words.proofs.Lengths.{option-two, entry-eight}
 use Rattle.words.proofs.Stores.{one-zero as next-zero}
 use Rattle.capi.specs.Answer.{done, undone}
-use Rattle.capi.specs.Lend.{Freshened, code, lineCode, gsvIn, Taken, takes, GatheredLine, rowRoom, rowHead, entriesWords, rowRead, reads, RowRead}
-use Rattle.capi.specs.Code.{ReadAs}
+use Rattle.capi.specs.Lend.{Freshened, code, lineCode, takes, GatheredLine, rowRoom, rowHead, entriesWords, rowRead, reads, RowRead}
+use Rattle.capi.specs.Code.{takenCode, ReadAs}
 
 pub last-code : (o : Outcome) (k : ℕ) → o ≡ Complete → 3 + k ≡ code o k
 last-code o k e = sym (ap (λ (o : Outcome). code o k) e)
@@ -45,24 +42,23 @@ last-code o k e = sym (ap (λ (o : Outcome). code o k) e)
 pub row-system : (s : Source) → rowFrom s + 1 ≡ systemNumber (s .system)
 row-system s = let h = number-within (s .system) in omega (arith, h .0)
 
--- a record that is a GSV record
-module _ (x : Record) (t : List ℕ) where
-  pub is-gsv : (g : GsvRecord) (t′ : List ℕ) (o : Outcome) (k n : ℕ) → x ≡ Gsv g → k ≡ keyOf (gsvSentence g)
-      → Gathers t t′ (lineOf (gsvSentence g)) o → n ≡ code o k → Taken (gsvIn (recordOf [] x)) t t′ n
-  is-gsv g t′ o k n f ek p en =
-      let z : some (gsvSentence g) ≡ gsvIn (recordOf [] x) = sym (ap (λ (y : Record). gsvIn (recordOf [] y)) f) in
-      record {
-        table = p .words ∙ (λ j. gathers t (z j) .gatherer);
-        says = en ∙ (λ j. code (p .says j) (ek j)) ∙ (λ j. lineCode (z j) (gathers t (z j)));
-      }
+-- what a line that was taken did, by its answer
+abbrev codeIn : Brief → Outcome → ℕ
+codeIn accepted o = 0
+codeIn (gsvLine t h) o = code o (rowFrom (sourceFrom t))
+codeIn (refusal x) o = 0
 
--- the GSV sentence of an answer does not turn on the satellites beside it
-gsv-beside : (xs : List ℕ) (x : Record) → gsvIn (recordOf [] x) ≡ gsvIn (recordOf xs x)
-gsv-beside xs (Rmc r) = refl
-gsv-beside xs (Gsa g) = refl
-gsv-beside xs (Gsv g) = refl
-gsv-beside xs (Other k) = refl
-gsv-beside xs (Refused r) = refl
+by-brief : (r : Taken) → takenCode r ≡ codeIn (brief r) (outcomeOf r)
+by-brief Accepted = refl
+by-brief (Gsv t h o) = refl
+by-brief (Refused x) = refl
+
+by-answer : (a : Answer) (t : List ℕ) → codeIn (briefOf a) (gathers t (gsvIn a) .handed) ≡ lineCode (gsvIn a) (gathers t (gsvIn a))
+by-answer (isRmc r) t = refl
+by-answer (isGsa g) t = refl
+by-answer (isGsv s) t = refl
+by-answer (isOther k) t = refl
+by-answer (isRefused x) t = refl
 
 module _ (line out t : List ℕ) where
   nothing-taken : takes out t ≡ false → GatheredLine line out out t t undone
@@ -79,20 +75,21 @@ module _ (line out t : List ℕ) where
   pub no-table : wordCount ≤ length out → (length t ≡ tableWords → ⊥) → GatheredLine line out out t t undone
   no-table h n = nothing-taken (λ j. le-leb wordCount (length out) h j && ne-eqb (length t) tableWords n j)
 
-  pub line-taken : (p : ParseResult) (out′ t′ : List ℕ) (r : ℕ) → wordCount ≤ length out → length t ≡ tableWords → Says (answer line) p
-      → out′ ≡ into (words (answer line)) out → Taken (gsvIn (recordOf [] (p .answer))) t t′ r → GatheredLine line out out′ t t′ r
-  line-taken p out′ t′ r h long s w k =
+  pub line-taken : (out′ t′ : List ℕ) (x : Taken) (r : ℕ) → wordCount ≤ length out → length t ≡ tableWords → Takes (answer line) out out′ t t′ x
+      → r ≡ takenCode x → GatheredLine line out out′ t t′ r
+  line-taken out′ t′ x r h long k q =
       let e : takes out t ≡ true = λ j. le-leb wordCount (length out) h j && eq-eqb (length t) tableWords long j in
-      let z : gsvIn (recordOf [] (p .answer)) ≡ gsvIn (answer line) = gsv-beside (take (p .count) (p .satellites)) (p .answer) ∙ ap gsvIn (s .says) in
       record {
         words =
-            w
+            k .words
             ∙ ap (λ (b : Bool). cond b (words (answer line) ++ drop wordCount out) out) (le-leb wordCount (length out) h)
             ∙ sym (ap (λ (b : Bool). cond b (words (answer line) ++ drop wordCount out) out) e);
-        table = k .table ∙ (λ j. gathers t (z j) .gatherer) ∙ sym (ap (λ (b : Bool). cond b (gathers t (gsvIn (answer line)) .gatherer) t) e);
+        table = k .table ∙ sym (ap (λ (b : Bool). cond b (gathers t (gsvIn (answer line)) .gatherer) t) e);
         says =
-            k .says
-            ∙ (λ j. lineCode (z j) (gathers t (z j)))
+            q
+            ∙ by-brief x
+            ∙ (λ j. codeIn (k .says j) (k .handed j))
+            ∙ by-answer (answer line) t
             ∙ sym (ap (λ (b : Bool). cond b (lineCode (gsvIn (answer line)) (gathers t (gsvIn (answer line)))) undone) e);
       }
 

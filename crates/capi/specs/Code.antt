@@ -1,26 +1,23 @@
 -- For the code, not for a reader of the scope.
 use Prim.Native.Nat.{ℕ}
 use mathlib.Core.Path.{_≡_}
-use mathlib.Core.List.{List, [], _++_}
+use mathlib.Core.List.{List, _++_}
 use mathlib.Core.Bool.{cond}
 use lib.Dec.{leb}
 use lib.ListN.{drop, getD}
-use Rattle.sentence.specs.Answer.{recordOf}
-use Rattle.sentence.specs.declared.Record.{Record}
-use Rattle.sentence.specs.declared.Record.the-variants.{Rmc, Gsa, Gsv, Other, Refused}
+use Rattle.gsv.specs.Answer.{talker}
+use Rattle.rows.specs.Key.{sourceFrom, rowFrom}
 use Rattle.gather.specs.Words.{cellCount}
-use Rattle.words.specs.Words.{words}
-use Rattle.words.specs.Answer.{gsaRow}
+use Rattle.core.specs.declared.Taken.{Taken}
+use Rattle.core.specs.declared.Taken.the-variants.{Accepted, Gsv, Refused}
 use Rattle.capi.specs.Answer.{done, undone}
-use Rattle.capi.specs.Lend.{rowRoom, rowRead}
+use Rattle.capi.specs.Lend.{code, rowRoom, rowRead}
 
--- the words of a record with the cells beside it
-abbrev pub recordWords : List ℕ → ℕ → Record → List ℕ
-recordWords cells count (Rmc r) = words (recordOf [] (Rmc r))
-recordWords cells count (Gsa g) = gsaRow (g .talker) (g .head) cells count
-recordWords cells count (Gsv g) = words (recordOf [] (Gsv g))
-recordWords cells count (Other o) = words (recordOf [] (Other o))
-recordWords cells count (Refused r) = words (recordOf [] (Refused r))
+-- what a line that was taken did, as a number
+abbrev pub takenCode : Taken → ℕ
+takenCode Accepted = 0
+takenCode (Gsv t h o) = code o (rowFrom (sourceFrom (talker t)))
+takenCode (Refused r) = 0
 
 -- what `nmea_row` writes and answers, of a row's words and where there is room
 pub record ReadAs (ws : List ℕ) (κ : ℕ) (out out′ : List ℕ) (r : ℕ) : Type 0 where

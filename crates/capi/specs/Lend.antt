@@ -7,13 +7,14 @@ use mathlib.Core.Option.{Option, none, some}
 use lib.Dec.{eqb, leb, ltb}
 use lib.ListN.{length, drop, getD}
 use Rattle.gsv.specs.Gsv.{Satellite, GsvSentence}
-use Rattle.answer.specs.Sentence.{Answer, answer}
+use Rattle.answer.specs.Sentence.{answer}
 use Rattle.rows.specs.Key.{keyOf, rowCount}
 use Rattle.gather.specs.Words.{cellCount, satsFrom}
 use Rattle.gather.specs.Table.{tableWords, freshTable, rowOf}
 use Rattle.gather.specs.declared.line.Outcome.{Outcome}
 use Rattle.gather.specs.declared.line.Outcome.the-variants.{NoRow, Nothing, Waiting, Complete}
-use Rattle.fed.specs.Line.{read, acceptedGsv, Gathered, gathers}
+use Rattle.fed.specs.Line.{Gathered, gathers}
+use Rattle.core.specs.Brief.{gsvIn}
 use Rattle.words.specs.Part.{zeros}
 use Rattle.words.specs.Gsv.{entryWords}
 use Rattle.words.specs.Words.{wordCount, words}
@@ -35,14 +36,6 @@ code Complete κ = 3 + κ
 abbrev pub lineCode : Option GsvSentence → Gathered → ℕ
 lineCode none a = 0
 lineCode (some s) a = code (a .handed) (keyOf s)
-
-abbrev pub gsvIn : Answer → Option GsvSentence
-gsvIn a = acceptedGsv (read a)
-
--- the table after such a line, and what is said
-pub record Taken (x : Option GsvSentence) (t t′ : List ℕ) (r : ℕ) : Type 0 where
-  pub table : t′ ≡ gathers t x .gatherer
-  pub says : r ≡ lineCode x (gathers t x)
 
 -- `nmea_gather`: room for the words of an answer, and a table
 abbrev pub takes : List ℕ → List ℕ → Bool

@@ -1,22 +1,20 @@
 // A table of satellite rows that the caller lends, for C and Rust: made fresh, given a line, and a row of it read.
 ghost use mathlib.Core.Path.{_≡_};
-ghost use mathlib.Core.List.{[]};
 ghost use mathlib.Core.Option.{some};
 ghost use Prim.Native.Nat.{_+_, _-_, _*_, _≤_, _<_};
 ghost use lib.ListN.{length};
 ghost use lib.Seq.{sets};
-ghost use Rattle.sentence.specs.Answer.{recordOf};
 ghost use Rattle.rows.specs.Key.{rowCount};
 ghost use Rattle.gather.specs.Words.{rowWords, cellCount, numberOf, satAt, satsFrom};
 ghost use Rattle.words.specs.Part.{zeros, optionWords};
 ghost use Rattle.words.specs.Gsv.{entryWords};
-ghost use Rattle.capi.specs.Lend.{Freshened, code, gsvIn, Taken, GatheredLine, rowRoom, rowHead, entriesWords, RowRead};
-ghost use Rattle.capi.specs.Code.{ReadAs};
+ghost use Rattle.capi.specs.Lend.{Freshened, code, GatheredLine, rowRoom, rowHead, entriesWords, RowRead};
+ghost use Rattle.capi.specs.Code.{takenCode, ReadAs};
 use crate::DONE;
 use crate::UNDONE;
+use core::Taken;
 use gather::lent;
 use gather::line::Outcome;
-use sentence::Record;
 use words::ENTRY_WORDS;
 use words::WORDS;
 
@@ -74,21 +72,17 @@ fn row_code(o: Outcome, row: usize) -> u32
     }
 }
 
-// What a line's record does to the table.
-fn gather_record(answer: Record, table: &mut [u32]) -> u32
-    ensures { λ r. ⌜ Taken (gsvIn (recordOf [] answer)) (now (table .entry)) (now (table .exit)) r ⌝ }
+// What a line that was taken did to the table.
+fn taken_code(taken: Taken) -> u32
+    ensures { λ r. ⌜ r ≡ takenCode taken ⌝ }
 {
-    match answer {
-        Record::Rmc(_) => NO_GSV,
-        Record::Gsa(_) => NO_GSV,
-        Record::Gsv(g) => {
-            let talker = g.talker;
+    match taken {
+        Taken::Accepted => NO_GSV,
+        Taken::Gsv(talker, _, outcome) => {
             let row = gather::table::row_of(gather::table::source_of(talker));
-            let o = gather::table::gather(&mut *table, g);
-            row_code(o, row)
+            row_code(outcome, row)
         }
-        Record::Other(_) => NO_GSV,
-        Record::Refused(_) => NO_GSV,
+        Taken::Refused(_) => NO_GSV,
     }
 }
 
@@ -104,10 +98,7 @@ pub extern "C" fn nmea_gather(line: &[u8], out: &mut [u64], table: &mut [u32]) -
     if table.len() != gather::table::WORDS {
         return UNDONE;
     }
-    let p = sentence::parse_bytes(line);
-    crate::put_answer(&mut *out, p);
-    let answer = p.answer;
-    gather_record(answer, &mut *table)
+    taken_code(core::take(line, &mut *out, &mut *table))
 }
 
 // A word of a row that may be absent, as two.

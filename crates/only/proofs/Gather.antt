@@ -3,8 +3,9 @@ use Prim.Native.Nat.{ℕ}
 use mathlib.Core.Path.{_≡_}
 use mathlib.Core.Bool.{Bool}
 use mathlib.Core.List.{List}
-use Rattle.gsv.specs.Answer.{talker, gsvSentence}
+use Rattle.gsv.specs.Answer.{talker, talker as talkerIs, headOf, gsvSentence}
 use Rattle.gsv.specs.declared.GsvTalker.{GsvTalker}
+use Rattle.gsv.specs.declared.GsvHead.{GsvHead}
 use Rattle.gsv.specs.declared.GsvRecord.{GsvRecord}
 use Rattle.rows.specs.Key.{Source, sourceFrom, rowFrom}
 use Rattle.rows.specs.Line.{lineOf}
@@ -12,6 +13,7 @@ use Rattle.gather.specs.Answer.{source}
 use Rattle.gather.specs.Words.{stands}
 use Rattle.gather.specs.Put.{Put}
 use Rattle.gather.specs.Table.{Gathers}
+use Rattle.gather.specs.Heads.{GathersHead}
 use Rattle.gather.specs.declared.line.Outcome.{Outcome}
 use Rattle.gather.specs.declared.table.Source as Code
 use Rattle.only.proofs.Laws.{same, undone}
@@ -44,3 +46,9 @@ pub gather : (table : List ℕ) (line : GsvRecord) {l m : List ℕ} {r q : Outco
     → Gathers table m (lineOf (gsvSentence line)) q
     → (r ≡ q) × (l ≡ m)
 gather table line x y = (same (x .says) (y .says), same (x .words) (y .words))
+
+pub count : (heads : List ℕ) (talker : GsvTalker) (head : GsvHead) {l m : List ℕ} {r q : Outcome}
+    → GathersHead heads l (talkerIs talker) (headOf head) r
+    → GathersHead heads m (talkerIs talker) (headOf head) q
+    → (r ≡ q) × (l ≡ m)
+count heads talker head x y = (same (x .says) (y .says), same (x .words) (y .words))

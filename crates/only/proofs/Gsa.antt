@@ -84,3 +84,9 @@ pub settle : (a b : ℕ) (tail : System) {r q : SettledCode}
     → settled q ≡ Spec.settle (named a b) (system tail)
     → r ≡ q
 settle a b tail x y = undone settled settled-of settled-is (same x y)
+
+pub with-system : (head : GsaHead) (system : System) {r q : GsaHead}
+    → r ≡ record { mode = head .mode; fix = head .fix; dops = head .dops; system = system }
+    → q ≡ record { mode = head .mode; fix = head .fix; dops = head .dops; system = system }
+    → r ≡ q
+with-system head system = same

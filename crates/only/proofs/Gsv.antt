@@ -3,11 +3,12 @@ use Prim.Native.Nat.{ℕ}
 use mathlib.Core.Path.{_≡_, refl, ap}
 use mathlib.Core.List.{List}
 use mathlib.Core.Option.{Option, none, some}
-use lib.ListN.{getD}
+use lib.ListN.{getD, drop}
+use Rattle.text.specs.Placed.{Placed, unread, refused, upto, Reads}
 use Rattle.text.specs.Value.{Value, syntax, fault, is, value}
 use Rattle.gsv.specs.Talker.{Talker, ga, gp, gl, bd, gb, gi, gq, pq, qz, talkerOf, lettersOf, System, gps, glonass, galileo, beidou, qzss, navic, systemOf, systemNumber}
-use Rattle.gsv.specs.Gsv.{Satellite, Gsv, gsv, GsvSentence}
-use Rattle.gsv.specs.Answer.{talker, talkerRead, letters, gnss, satellite, slot, gsvData, gsvRead, gsvSentence}
+use Rattle.gsv.specs.Gsv.{Satellite, Head, head, Gsv, withEntries, gsv, GsvSentence}
+use Rattle.gsv.specs.Answer.{talker, talkerRead, letters, gnss, satellite, slot, headOf, headAt, gsvData, gsvRead, gsvSentence}
 use Rattle.gsv.specs.declared.GsvTalker.{GsvTalker}
 use Rattle.gsv.specs.declared.GsvTalker.the-variants.{Ga, Gp, Gl, Bd, Gb, Gi, Gq, Pq, Qz}
 use Rattle.gsv.specs.declared.Letters.{Letters}
@@ -16,13 +17,16 @@ use Rattle.gsv.specs.declared.TalkerOf.{TalkerOf}
 use Rattle.gsv.specs.declared.TalkerOf.the-variants.{Unknown, Is as Names}
 use Rattle.gsv.specs.declared.Slot.{Slot}
 use Rattle.gsv.specs.declared.Slot.the-variants.{Empty, Seen}
+use Rattle.gsv.specs.declared.GsvHead.{GsvHead}
+use Rattle.gsv.specs.declared.HeadAt.{HeadAt}
+use Rattle.gsv.specs.declared.HeadAt.the-variants.{No as NoHead, Is as AHead}
 use Rattle.gsv.specs.declared.GsvData.{GsvData}
 use Rattle.gsv.specs.declared.GsvRead.{GsvRead}
 use Rattle.gsv.specs.declared.GsvRead.the-variants.{Syntax, Is as AGsv}
 use Rattle.gsv.specs.declared.GnssType.{GnssType}
 use Rattle.gsv.specs.declared.GnssType.the-variants.{Beidou, Galileo, Gps, Glonass, NavIC, Qzss}
 use Rattle.gsv.specs.declared.SatInfo.{SatInfo}
-use Rattle.only.proofs.Laws.{same, undone}
+use Rattle.only.proofs.Laws.{same, undone, reads}
 use Rattle.only.proofs.Text.{held-of, held-is}
 
 pub system-of : System → GnssType
@@ -142,6 +146,36 @@ gnss-type t x y = undone gnss system-of system-is (same x y)
 
 pub system-number : (g : GnssType) {r q : ℕ} → r ≡ systemNumber (gnss g) → q ≡ systemNumber (gnss g) → r ≡ q
 system-number g = same
+
+abbrev pub head-back : Head → GsvHead
+head-back h = record { count = h .count; index = h .index; view = h .view }
+
+head-at-back : Placed Head → HeadAt
+head-at-back unread = NoHead
+head-at-back (refused f) = NoHead
+head-at-back (upto h p) = AHead (head-back h) p
+
+head-at-is : (r : HeadAt) → head-at-back (headAt r) ≡ r
+unfolding head-at-back
+head-at-is NoHead = refl
+head-at-is (AHead h p) = refl
+
+pub do-parse-head : (s : List ℕ) {r q : HeadAt} → Reads s 0 head (headAt r) → Reads s 0 head (headAt q) → r ≡ q
+do-parse-head s x y = undone headAt head-at-back head-at-is (reads x y)
+
+pub with-entries : (s : List ℕ) (at : ℕ) (h : GsvHead) {r q : GsvData}
+    → is (gsvData r) ≡ value (withEntries (headOf h) (drop at s))
+    → is (gsvData q) ≡ value (withEntries (headOf h) (drop at s))
+    → r ≡ q
+with-entries s at h {r} {q} x y = undone (λ (d : GsvData). gsvRead (AGsv d)) back back-is (same x y)
+  where
+    back : Value Gsv → GsvData
+    back syntax = r
+    back (fault f) = r
+    back (is g) = gsv-of g
+
+    back-is : (d : GsvData) → back (gsvRead (AGsv d)) ≡ d
+    back-is d = gsv-is d
 
 pub do-parse-gsv : (s : List ℕ) {r q : GsvRead} → gsvRead r ≡ value (gsv s) → gsvRead q ≡ value (gsv s) → r ≡ q
 do-parse-gsv s x y = undone gsvRead read-of read-is (same x y)

@@ -11,5 +11,6 @@ pub mod Rmc
 pub mod Sentence
 pub mod Words
 pub mod Gather
+pub mod Core
 pub mod Log
 pub mod Capi

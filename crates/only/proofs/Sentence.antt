@@ -2,19 +2,20 @@
 use Prim.Native.Nat.{ℕ}
 use mathlib.Core.Path.{_≡_, refl, ap}
 use mathlib.Core.List.{List}
-use mathlib.Core.Option.{Option, none, some}
 use lib.ListN.{take}
 use Rattle.text.specs.Bytes.{bytes}
-use Rattle.frame.specs.Refused.{Refused}
-use Rattle.answer.specs.Sentence.{Answer, isRmc, isGsa, isGsv, isOther, isRefused, RmcSentence, GsaSentence, answer, parseAs, verdictOf}
-use Rattle.sentence.specs.Answer.{rmcSentence, gsaSentence, recordOf, Says, verdict}
+use Rattle.frame.specs.Answer.{letters}
+use Rattle.frame.specs.declared.refusal.Kind.{Kind}
+use Rattle.answer.specs.Sentence.{Answer, isRmc, isGsa, isGsv, isOther, isRefused, RmcSentence, GsaSentence, rmcType, gsaType, gsvType, otherType, formatterOf, answer, parseAs}
+use Rattle.answer.specs.Sentence as Spec
+use Rattle.sentence.specs.Answer.{formatter, rmcSentence, gsaSentence, recordOf, Says}
 use Rattle.sentence.specs.declared.RmcRecord.{RmcRecord}
 use Rattle.sentence.specs.declared.GsaRecord.{GsaRecord}
 use Rattle.sentence.specs.declared.Record.{Record}
 use Rattle.sentence.specs.declared.Record.the-variants.{Rmc as ARmc, Gsa as AGsa, Gsv as AGsv, Other as AnOther, Refused as ARefusal}
 use Rattle.sentence.specs.declared.ParseResult.{ParseResult}
-use Rattle.sentence.specs.declared.Verdict.{Verdict}
-use Rattle.sentence.specs.declared.Verdict.the-variants.{Accepted, Refused as AVerdict}
+use Rattle.sentence.specs.declared.Formatter.{Formatter}
+use Rattle.sentence.specs.declared.Formatter.the-variants.{Rmc, Gsa, Gsv, Other}
 use Rattle.only.proofs.Laws.{same, brought, undone}
 use Rattle.only.proofs.Frame.{talker-of, kind-of, refusal-of, refusal-is}
 use Rattle.only.proofs.Gsv.{gsv-record, gsv-record-is}
@@ -61,14 +62,21 @@ says-one a {r} {q} x y =
     let count = same (x .beside .count-is) (y .beside .count-is) in
     λ i. record { answer = said i; satellites = cells i; count = count i }
 
-verdict-of : Option Refused → Verdict
-verdict-of none = Accepted
-verdict-of (some r) = AVerdict (refusal-of r)
+formatter-back : Spec.Formatter → Formatter
+formatter-back rmcType = Rmc
+formatter-back gsaType = Gsa
+formatter-back gsvType = Gsv
+formatter-back otherType = Other
 
-verdict-is : (r : Verdict) → verdict-of (verdict r) ≡ r
-unfolding verdict-of
-verdict-is Accepted = refl
-verdict-is (AVerdict r) = ap AVerdict (refusal-is r)
+formatter-is : (r : Formatter) → formatter-back (formatter r) ≡ r
+unfolding formatter-back
+formatter-is Rmc = refl
+formatter-is Gsa = refl
+formatter-is Gsv = refl
+formatter-is Other = refl
+
+pub formatter-of : (kind : Kind) {r q : Formatter} → formatter r ≡ formatterOf (letters kind) → formatter q ≡ formatterOf (letters kind) → r ≡ q
+formatter-of kind x y = undone formatter formatter-back formatter-is (same x y)
 
 pub parse-bytes : (line : List ℕ) {r q : ParseResult} → Says (answer line) r → Says (answer line) q → r ≡ q
 parse-bytes line = says-one (answer line)
@@ -81,6 +89,3 @@ parse-gsa line = says-one (parseAs (bytes "GSA") line)
 
 pub parse-gsv : (line : List ℕ) {r q : ParseResult} → Says (parseAs (bytes "GSV") line) r → Says (parseAs (bytes "GSV") line) q → r ≡ q
 parse-gsv line = says-one (parseAs (bytes "GSV") line)
-
-pub judge : (line : List ℕ) {r q : Verdict} → verdict r ≡ verdictOf (answer line) → verdict q ≡ verdictOf (answer line) → r ≡ q
-judge line x y = undone verdict verdict-of verdict-is (same x y)

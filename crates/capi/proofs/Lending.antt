@@ -7,7 +7,7 @@ use mathlib.Core.Bool.{Bool, true, false, _&&_, cond}
 use mathlib.Core.Option.{Option, none, some}
 use borrow.Author.Tests.{eq-eqb, ne-eqb, le-leb, lt-leb, lt-ltb, le-ltb}
 use lib.Dec.{eqb, leb, ltb}
-use lib.ListN.{length, take, drop, getD, set, replicate, length-set, length-append, length-replicate, length-drop, drop-of-length-le}
+use lib.ListN.{length, drop, getD, set, replicate, length-set, length-append, length-replicate, length-drop, drop-of-length-le}
 use lib.Seq.{sets, sets-eq}
 use Rattle.gsv.specs.Gsv.{Satellite}
 use Rattle.gsv.specs.Talker.{systemNumber}
@@ -28,7 +28,7 @@ use Rattle.core.specs.declared.Taken.{Taken}
 use Rattle.core.specs.declared.Taken.the-variants.{Accepted, Gsv, Refused}
 use Rattle.words.specs.Part.{zeros, optionWords}
 use Rattle.words.specs.Gsv.{entryWords}
-use Rattle.words.specs.Words.{wordCount, words, into}
+use Rattle.words.specs.Words.{wordCount, words}
 use Rattle.words.proofs.Lengths.{option-two, entry-eight}
 use Rattle.words.proofs.Stores.{one-zero as next-zero}
 use Rattle.capi.specs.Answer.{done, undone}

@@ -12,7 +12,7 @@ use Rattle.frame.specs.declared.refusal.Kind.{Kind}
 use Rattle.frame.specs.declared.refusal.Talker as Code
 use Rattle.gsa.specs.Answer.{row, gsaOf}
 use Rattle.gsa.specs.declared.GsaHead.{GsaHead}
-use Rattle.gsv.specs.Gsv.{Head, GsvSentence}
+use Rattle.gsv.specs.Gsv.{GsvSentence}
 use Rattle.gsv.specs.Answer.{talker, headOf, gsvSentence}
 use Rattle.gsv.specs.declared.GsvHead.{GsvHead}
 use Rattle.gsv.specs.declared.GsvRecord.{GsvRecord}

@@ -6,11 +6,11 @@ use mathlib.Core.Path.{_≡_, refl, ap, sym, _∙_, subst}
 use mathlib.Core.List.{List, [], _++_}
 use mathlib.Core.Bool.{Bool, true, false, _&&_, cond, and-eq-true-iff}
 use mathlib.Core.Option.{Option, none, some}
-use borrow.Author.Tests.{eq-eqb, eqb-true, eqb-false, leb-true, le-leb}
+use borrow.Author.Tests.{eqb-true, eqb-false, leb-true, le-leb}
 use lib.Dec.{eqb, leb}
 use lib.ListN.{length, getD, set, replicate, length-set, length-replicate, getD-replicate}
 use lib.Seq.{getD-set-same, getD-set-other}
-use Rattle.groups.specs.Log.{lineMax, Gsv, gsv}
+use Rattle.groups.specs.Log.{lineMax, Gsv}
 use Rattle.groups.specs.Step.{Open, Out, goesOn, onward, sofar, taken, step}
 use Rattle.gsv.specs.Gsv.{Satellite, Head, GsvSentence}
 use Rattle.answer.specs.Sentence.{answer, isGsv}

@@ -9,7 +9,7 @@ use mathlib.Core.Option.{Option, none, some}
 use borrow.Author.Tests.{eq-eqb, ne-eqb, eqb-true, leb-true}
 use lib.Dec.{eqb, leb}
 use lib.ListN.{length}
-use Rattle.groups.specs.Log.{lineMax, Gsv}
+use Rattle.groups.specs.Log.{lineMax}
 use Rattle.groups.specs.Step.{Open, onward, sofar, taken}
 use Rattle.gsv.specs.Talker.{Talker}
 use Rattle.gsv.specs.Gsv.{Satellite, Head}

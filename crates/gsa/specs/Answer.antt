@@ -117,6 +117,10 @@ pub record Answers (v : Value Gsa) (r : GsaRead) : Type 0 where
 abbrev pub without : GsaAnswer → GsaRead
 without a = record { answer = a; satellites = row []; count = 0 }
 
+-- a record with its system settled
+abbrev pub headWith : GsaHead → System → GsaHead
+headWith h s = record { mode = h .mode; fix = h .fix; dops = h .dops; system = s }
+
 abbrev pub settled : SettledCode → Settled
 settled Unsettled = absent
 settled (SettledIs n) = settledAs n

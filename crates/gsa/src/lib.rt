@@ -8,7 +8,7 @@ ghost use Rattle.text.specs.Many.{takeWhile1, oneOf3};
 ghost use Rattle.text.specs.Value.{value};
 ghost use Rattle.gsa.specs.System.{known, named, settle};
 ghost use Rattle.gsa.specs.Gsa.{ifKnown, lastSystem, emptyTail, item, prnFields, dop, dops, optSystem, fullTail, gsa};
-ghost use Rattle.gsa.specs.Answer.{system, systemAt, ending, emptied, itemAt, dopAt, dopsAt, Row, prnsAt, tailAt, Answers, without, settled};
+ghost use Rattle.gsa.specs.Answer.{system, systemAt, ending, emptied, itemAt, dopAt, dopsAt, Row, prnsAt, tailAt, Answers, without, headWith, settled};
 use decimal::ShortAt;
 use decimal::ShortDecimal;
 use text::Held;
@@ -458,7 +458,7 @@ pub fn settle(a: u8, b: u8, tail: System) -> Settled
 
 // A record whose system is settled.
 pub fn with_system(head: GsaHead, system: System) -> GsaHead
-    ensures { λ r. ⌜ r ≡ record { mode = head .mode; fix = head .fix; dops = head .dops; system = system } ⌝ }
+    ensures { λ r. ⌜ r ≡ headWith head system ⌝ }
 {
     let dops = head.dops;
     GsaHead {

@@ -16,16 +16,14 @@ use Rattle.sentence.specs.declared.Record.{Record}
 use Rattle.gsv.specs.declared.GsvRecord.{GsvRecord}
 use Rattle.answer.specs.Sentence.{isRmc, isGsa, isGsv, isOther, isRefused}
 use Rattle.sentence.specs.declared.Record.the-variants.{Rmc, Gsa, Gsv, Other, Refused}
-use Rattle.fed.specs.Line.{LogLine, blank, read, saidOf, acceptedGsv, gathers}
-use Rattle.fed.specs.Fed.{isHanded}
+use Rattle.fed.specs.Line.{LogLine, blank, read, saidOf, acceptedGsv}
 use Rattle.log.specs.declared.line.Line as Code
 use Rattle.log.specs.declared.line.Line.the-variants.{Blank, Read}
 use Rattle.log.specs.declared.line.LineAt.{LineAt}
 use Rattle.log.specs.declared.walk.Counts.{Counts}
-use Rattle.log.specs.declared.walk.LineTaken.{LineTaken}
 use Rattle.log.specs.Walk.{tallied}
 use Rattle.log.specs.Answer.{lineIn, Follows}
-use Rattle.log.specs.Code.{SaysLine, sortOf, talliedBy, Takes}
+use Rattle.log.specs.Code.{SaysLine, sortOf, talliedBy}
 
 gsv-beside : (xs : List ℕ) (l : Code.Line) → acceptedGsv (lineIn [] l) ≡ acceptedGsv (lineIn xs l)
 gsv-beside xs Blank = refl

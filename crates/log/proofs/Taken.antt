@@ -4,7 +4,7 @@ use native.Mathlib.Omega.{arith}
 use mathlib.Core.Path.{_≡_, refl, ap, sym, _∙_, subst}
 use mathlib.Core.List.{List}
 use mathlib.Core.Bool.{Bool, true, false, cond}
-use mathlib.Core.Option.{Option, none, some}
+use mathlib.Core.Option.{none, some}
 use borrow.Author.Tests.{eq-eqb}
 use lib.Dec.{eqb}
 use lib.ListN.{length}
@@ -23,7 +23,7 @@ use Rattle.gather.specs.declared.run.RunAfter.{RunAfter}
 use Rattle.gather.specs.declared.line.Outcome.{Outcome}
 use Rattle.gather.specs.declared.line.Outcome.the-variants.{NoRow}
 use Rattle.gather.proofs.Counted.{same-said, still}
-use Rattle.fed.specs.Line.{LogLine, blank, read, saidOf, acceptedGsv, gathers}
+use Rattle.fed.specs.Line.{blank, read, saidOf, acceptedGsv, gathers}
 use Rattle.fed.specs.Fed.{isHanded}
 use Rattle.core.specs.Brief.{Brief, accepted, gsvLine, refusal, briefOf}
 use Rattle.core.specs.Answer.{brief, outcomeOf, Takes as TakesLine}

@@ -8,7 +8,7 @@ use Rattle.text.specs.Value.{Value, syntax, fault, is, value}
 use Rattle.gsa.specs.System.{Settled, absent, is as settledAs, mismatch, named}
 use Rattle.gsa.specs.System as Spec
 use Rattle.gsa.specs.Gsa.{Gsa, Dops, gsa}
-use Rattle.gsa.specs.Answer.{system, dopsOf, gsaOf, said, Answers, settled}
+use Rattle.gsa.specs.Answer.{system, dopsOf, gsaOf, said, Answers, settled, headWith}
 use Rattle.gsa.specs.declared.System.{System}
 use Rattle.gsa.specs.declared.System.the-variants.{Absent as NoSystem, Is as ASystem}
 use Rattle.gsa.specs.declared.Dops.{Dops as Three}
@@ -86,7 +86,7 @@ pub settle : (a b : ℕ) (tail : System) {r q : SettledCode}
 settle a b tail x y = undone settled settled-of settled-is (same x y)
 
 pub with-system : (head : GsaHead) (system : System) {r q : GsaHead}
-    → r ≡ record { mode = head .mode; fix = head .fix; dops = head .dops; system = system }
-    → q ≡ record { mode = head .mode; fix = head .fix; dops = head .dops; system = system }
+    → r ≡ headWith head system
+    → q ≡ headWith head system
     → r ≡ q
 with-system head system = same

@@ -1,7 +1,7 @@
 -- How an answer follows from those of framing and of the readers of data: each map takes the code's answer to what it says, and
 -- what it says is what the definition has there. Assumes nothing.
 use Prim.Native.Nat.{ℕ, _≤_}
-use mathlib.Core.Path.{_≡_, refl, ap, sym, _∙_}
+use mathlib.Core.Path.{_≡_, ap, sym, _∙_}
 use mathlib.Core.Bool.{Bool, true, false, cond}
 use mathlib.Core.List.{List, []}
 use lib.ListN.{length}
@@ -19,10 +19,8 @@ use Rattle.frame.specs.declared.parse.Framed.{Framed}
 use Rattle.frame.specs.declared.parse.Framed.the-variants.{Is as Accepted, Refused as NotAccepted}
 use Rattle.frame.proofs.Within.{within}
 use Rattle.answer.specs.Sentence.{Answer, isRefused, orRefused, framedBy, Formatter, formatterOf, readAs, dispatch, ofType}
-use Rattle.sentence.specs.Answer.{formatter, recordOf}
+use Rattle.sentence.specs.Answer.{formatter}
 use Rattle.sentence.specs.declared.Formatter as Code
-use Rattle.sentence.specs.declared.Record.{Record}
-use Rattle.sentence.specs.declared.Record.the-variants.{Rmc, Gsa, Gsv, Other, Refused}
 
 -- the reader of a framed sentence's data
 module _ (x : Sentence) (s : List ℕ) {l : List ℕ} (inside : x .to ≤ length s) (lies : l ≡ dataOf x s) where

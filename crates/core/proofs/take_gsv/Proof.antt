@@ -1,21 +1,20 @@
 -- `take_gsv` meets its contract: the talker decides, then the head, which alone tells whether the sentence is accepted. Assumes nothing.
 use mathlib.Core.Path.{_≡_, refl, ap, sym, _∙_}
 use mathlib.Core.Option.{Option}
-use mathlib.Core.Bool.{false}
 use denote.Ref.{now}
 use borrow.Author.Tests.{not-true}
 use lib.ListN.{drop}
-use Rattle.text.specs.Value.{Value, value, is}
+use Rattle.text.specs.Value.{Value, value}
 use Rattle.frame.specs.Answer.{parts}
 use Rattle.frame.specs.declared.refusal.Refusal.the-variants.{Syntax, UnknownTalker}
 use Rattle.gsv.specs.Talker.{Talker}
-use Rattle.gsv.specs.Gsv.{Gsv, gsv, withEntries}
+use Rattle.gsv.specs.Gsv.{Gsv, gsv}
 use Rattle.gsv.specs.Answer.{talker, talkerRead, headOf}
 use Rattle.gsv.specs.declared.TalkerOf.{TalkerOf}
 use Rattle.gsv.proofs.Heads.{made, filled, no-head, behind-head}
-use Rattle.answer.specs.Sentence.{Answer, isGsv, orRefused, asGsv, gsvBy, gsvOf}
+use Rattle.answer.specs.Sentence.{orRefused, asGsv, gsvBy, gsvOf}
 use Rattle.sentence.proofs.Told.{data-says}
-use Rattle.core.specs.Brief.{gsvLine, briefOf}
+use Rattle.core.specs.Brief.{briefOf}
 use Rattle.core.proofs.Tells.{not-taken, gsv-taken, unwanted}
 use borrow.Author.Needs.{needs}
 use Rattle.core.proofs.take_gsv.Statement.{statement}

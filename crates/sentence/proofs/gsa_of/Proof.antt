@@ -9,7 +9,6 @@ use Rattle.gsa.specs.declared.GsaHead.{GsaHead}
 use Rattle.gsa.specs.declared.Settled.{Settled}
 use Rattle.answer.specs.Sentence.{isGsa, orRefused, settledGsa, asGsa, gsaOf}
 use Rattle.sentence.specs.Answer.{gsaSentence, Says}
-use Rattle.sentence.specs.declared.ParseResult.{ParseResult}
 use Rattle.sentence.specs.declared.Record.the-variants.{Gsa}
 use Rattle.sentence.proofs.Satellites.{alone-is, held, with-record, read-says, settled-says}
 use borrow.Author.Needs.{needs}

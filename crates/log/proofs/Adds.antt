@@ -3,13 +3,11 @@ use Prim.Native.Nat.{ℕ, _+_}
 use native.Mathlib.Omega.{arith}
 use mathlib.Core.Path.{_≡_, refl, ap, _∙_}
 use mathlib.Core.List.{List, []}
-use mathlib.Core.Option.{none}
 use lib.ListN.{take}
 use Rattle.lines.specs.Places.{lineAt}
 use Rattle.rows.specs.Line.{lineOf}
 use Rattle.gather.specs.Table.{Gathers}
 use Rattle.gather.specs.declared.line.Outcome.{Outcome}
-use Rattle.gather.specs.declared.line.Outcome.the-variants.{Nothing}
 use Rattle.gsv.specs.Answer.{gsvSentence}
 use Rattle.sentence.specs.Answer.{recordOf}
 use Rattle.sentence.specs.declared.Record.{Record}
@@ -54,10 +52,7 @@ module _ (log : List ℕ) (p : ℕ) (l : LineAt) (says : SaysLine log p l) where
   pub gsv-is : acceptedGsv (lineIn [] (l .line)) ≡ acceptedGsv (saidOf (lineAt log p))
   gsv-is = gsv-beside (take (l .count) (l .satellites)) (l .line) ∙ ap acceptedGsv (says .says)
 
--- a line that does nothing, and a GSV record
-pub follows-none : (t : List ℕ) → Follows none t t Nothing
-follows-none t = record { words = refl; says = refl }
-
+-- a GSV record
 pub follows-gsv : (a : Record) (g : GsvRecord) (t t′ : List ℕ) (o : Outcome) → a ≡ Gsv g → Gathers t t′ (lineOf (gsvSentence g)) o
     → Follows (acceptedGsv (read (recordOf [] a))) t t′ o
 follows-gsv a g t t′ o e x = rw e (record { words = x .words; says = x .says })

@@ -3,7 +3,7 @@ use Prim.Native.Nat.{ℕ, _+_, _*_, _≤_, _<_}
 use native.Mathlib.Omega.{arith}
 use mathlib.Core.Path.{_≡_, refl, ap, sym, _∙_}
 use mathlib.Core.List.{List, [], _++_}
-use mathlib.Core.Bool.{Bool, true, false, _&&_, false≢true, cond, and-eq-true-iff}
+use mathlib.Core.Bool.{Bool, true, false, _&&_, false≢true, true≢false, cond, and-eq-true-iff}
 use mathlib.Core.Option.{Option, none, some, Option·none-ne-some}
 use borrow.Author.Tests.{eq-eqb, ne-eqb, le-leb, lt-leb, eqb-true}
 use lib.Dec.{eqb, leb}
@@ -11,27 +11,18 @@ use lib.ListN.{length, getD, set}
 use lib.Seq.{sets}
 use Rattle.groups.specs.Log.{Gsv}
 use Rattle.groups.specs.Step.{Open, Out, onward, sofar, taken, step}
-use Rattle.gsv.specs.Gsv.{Satellite}
+use Rattle.gsv.specs.Gsv.{Satellite, Head}
 use Rattle.pack.proofs.Few.{four-each}
 use Rattle.rows.specs.Leave.{entrySize, space}
 use Rattle.rows.proofs.Row.{passes}
 use Rattle.gather.specs.Words.{satsFrom, openOf, stands, meant, flat}
 use Rattle.gather.specs.Put.{nextOf, written, rowAfter, told, outcomeOf, Put}
-use Rattle.gather.specs.Code.{headed, onRow, beforeOf, Stored}
+use Rattle.gather.specs.Heads.{runStands}
+use Rattle.gather.specs.Code.{headed, onRow, beforeOf, Stored, runsOn}
 use Rattle.gather.specs.declared.line.Before.{Before}
+use Rattle.gather.specs.declared.run.Run.{Run}
 use Rattle.gather.specs.declared.line.Outcome.the-variants.{NoRow, Nothing, Waiting, Complete}
 use Rattle.gather.proofs.Quick.{sats-long}
-
--- a line numbered 1
-module _ (r : Option (Open Satellite)) (n k v : ℕ) (one : k ≡ 1) where
-  pub too-few : n < 1 → sofar r (headed n k v) ≡ none
-  too-few h = simp (eq-eqb k 1 one, lt-leb 1 n h)
-
-  pub too-high : 1 ≤ n → 9 < n → sofar r (headed n k v) ≡ none
-  too-high h l = simp (eq-eqb k 1 one, le-leb 1 n h, lt-leb n 9 l)
-
-  pub starts : 1 ≤ n → n ≤ 9 → sofar r (headed n k v) ≡ some []
-  starts h l = simp (eq-eqb k 1 one, le-leb 1 n h, le-leb n 9 l)
 
 -- another line
 module _ (ws : List ℕ) (n k v : ℕ) where
@@ -67,13 +58,75 @@ module _ (ws : List ℕ) (n k v : ℕ) where
         ∙ on-is
         ∙ ap (λ (x : Bool). cond x (some (openOf ws .sats)) none) e
 
-    pub breaks : onRow ws n k v ≡ false → sofar (meant ws) (headed n k v) ≡ none
-    breaks e = answers false e
-
     -- the code's count, where the line goes on with the row's run
-    pub gone-on : onRow ws n k v ≡ true → _≡_ {A = Before} (record { runs = true; count = getD ws 3 0 }) (beforeOf (sofar (meant ws) (headed n k v)))
+    gone-on : onRow ws n k v ≡ true → _≡_ {A = Before} (record { runs = true; count = getD ws 3 0 }) (beforeOf (sofar (meant ws) (headed n k v)))
     gone-on e =
         ap (λ (c : ℕ). record { runs = true; count = c }) (sym (sats-long 0 (getD ws 3 0) ws)) ∙ ap beforeOf (sym (answers true e))
+
+  -- by the head of the row's run, which is asked first: a row that stands has one that lines can leave
+  abbrev run : Run
+  run = record { n = getD ws 0 0; next = getD ws 1 0; view = getD ws 2 0 }
+
+  abbrev head : Head
+  head = record { count = n; index = k; view = v }
+
+  stands-run : stands ws ≡ true → runStands run ≡ true
+  stands-run e =
+      let p = passes (openOf ws) .0 (and-eq-true-iff (eqb (length ws) 148) _ .0 e .1) in
+      λ j. le-leb 2 (getD ws 1 0) (p .begun) j && (le-leb (getD ws 1 0) (getD ws 0 0) (p .open') j && le-leb (getD ws 0 0) 9 (p .high) j)
+
+  -- the three numbers are the run's, and the row stands
+  record OnRow : Type 0 where
+    n-is : eqb n (getD ws 0 0) ≡ true
+    next-is : eqb k (getD ws 1 0) ≡ true
+    view-is : eqb v (getD ws 2 0) ≡ true
+    stood : stands ws ≡ true
+
+  on-row : onRow ws n k v ≡ true → OnRow
+  on-row e =
+      let (a, f) = and-eq-true-iff (eqb n (getD ws 0 0)) _ .0 e in
+      let (b, g) = and-eq-true-iff (eqb k (getD ws 1 0)) _ .0 f in
+      let (c, d) = and-eq-true-iff (eqb v (getD ws 2 0)) _ .0 g in
+      record { n-is = a; next-is = b; view-is = c; stood = d }
+
+  refuted : (onRow ws n k v ≡ true → ⊥) → onRow ws n k v ≡ false
+  refuted h = by (onRow ws n k v) refl
+    where
+      by : (b : Bool) → onRow ws n k v ≡ b → b ≡ false
+      by true e = absurd (h e)
+      by false e = refl
+
+  pub no-run : runsOn run head ≡ false → sofar (meant ws) (headed n k v) ≡ none
+  no-run e = by (eqb k 1) refl e
+    where
+      by : (one : Bool) → eqb k 1 ≡ one → cond one (leb 1 n && leb n 9) (runStands run && (eqb n (getD ws 0 0) && (eqb k (getD ws 1 0) && eqb v (getD ws 2 0)))) ≡ false
+          → sofar (meant ws) (headed n k v) ≡ none
+      by true z f = λ j. cond (z j) (cond (f j) (some []) none) (onward (meant ws) (headed n k v))
+      by false z f =
+          answers (λ q. true≢false (sym (eq-eqb k 1 q) ∙ z)) false
+          (refuted (λ t. let o = on-row t in
+          true≢false (sym (λ j. stands-run (o .stood) j && (o .n-is j && (o .next-is j && o .view-is j))) ∙ f)))
+
+  pub starts : runsOn run head ≡ true → k ≡ 1 → sofar (meant ws) (headed n k v) ≡ some []
+  starts e one =
+      let z : eqb k 1 ≡ true = eq-eqb k 1 one in
+      let f : (leb 1 n && leb n 9) ≡ true =
+      sym (λ j. cond (z j) (leb 1 n && leb n 9) (runStands run && (eqb n (getD ws 0 0) && (eqb k (getD ws 1 0) && eqb v (getD ws 2 0))))) ∙ e in
+      λ j. cond (z j) (cond (f j) (some []) none) (onward (meant ws) (headed n k v))
+
+  module _ (more : k ≡ 1 → ⊥) where
+    pub no-row-run : stands ws ≡ false → sofar (meant ws) (headed n k v) ≡ none
+    no-row-run s = answers more false (refuted (λ t. true≢false (sym (on-row t .stood) ∙ s)))
+
+    pub goes : runsOn run head ≡ true → stands ws ≡ true
+        → _≡_ {A = Before} (record { runs = true; count = getD ws 3 0 }) (beforeOf (sofar (meant ws) (headed n k v)))
+    goes e s =
+        let f : (runStands run && (eqb n (getD ws 0 0) && (eqb k (getD ws 1 0) && eqb v (getD ws 2 0)))) ≡ true =
+        sym (λ j. cond (ne-eqb k 1 more j) (leb 1 n && leb n 9) (runStands run && (eqb n (getD ws 0 0) && (eqb k (getD ws 1 0) && eqb v (getD ws 2 0))))) ∙ e in
+        let (_, t) = and-eq-true-iff (runStands run) _ .0 f in
+        let (a, u) = and-eq-true-iff (eqb n (getD ws 0 0)) _ .0 t in
+        let (b, c) = and-eq-true-iff (eqb k (getD ws 1 0)) _ .0 u in
+        gone-on more (λ j. a j && (b j && (c j && s j)))
 
   -- the entries before a line are few, its number is small, and the cells hold them
   pub record GoesOn (es : List Satellite) : Type 0 where
@@ -83,12 +136,9 @@ module _ (ws : List ℕ) (n k v : ℕ) where
 
   good : onRow ws n k v ≡ true → (getD ws 3 0 ≤ 32) × (k ≤ 9)
   good e =
-      let (e₁, f₁) = and-eq-true-iff (eqb n (getD ws 0 0)) _ .0 e in
-      let (e₂, f₂) = and-eq-true-iff (eqb k (getD ws 1 0)) _ .0 f₁ in
-      let (e₃, f₃) = and-eq-true-iff (eqb v (getD ws 2 0)) _ .0 f₂ in
-      let (e₄, f₄) = and-eq-true-iff (eqb (length ws) 148) _ .0 f₃ in
-      let p = passes (openOf ws) .0 f₄ in
-      let h : k ≡ getD ws 1 0 = eqb-true _ _ e₂ in (
+      let o = on-row e in
+      let p = passes (openOf ws) .0 (and-eq-true-iff (eqb (length ws) 148) _ .0 (o .stood) .1) in
+      let h : k ≡ getD ws 1 0 = eqb-true _ _ (o .next-is) in (
         omega (
           arith,
           four-each entrySize (space (getD ws 2 0)) (openOf ws .sats),
@@ -158,24 +208,24 @@ module _ (ws : List ℕ) (g : Gsv Satellite) where
         by none q p = record { words = sym (after-is none q); says = sym (outcome-is none q) }
         by (some es) q p = absurd (false≢true (sym f ∙ ap (λ (b : Before). b .runs) p))
 
-    pub record Run (b : Before) : Type 0 where
+    pub record Begun (b : Before) : Type 0 where
       pub es : List Satellite
       pub is : sofar (meant ws) g ≡ some es
       pub count : b .count ≡ length es
       pub few : b .count ≤ 32
       pub low : g .number ≤ 9
 
-    pub runs : (b : Before) → b ≡ beforeOf (sofar (meant ws) g) → b .runs ≡ true → Run b
+    pub runs : (b : Before) → b ≡ beforeOf (sofar (meant ws) g) → b .runs ≡ true → Begun b
     runs b e t = by (sofar (meant ws) g) refl e
       where
-        by : (x : Option (List Satellite)) → sofar (meant ws) g ≡ x → b ≡ beforeOf x → Run b
+        by : (x : Option (List Satellite)) → sofar (meant ws) g ≡ x → b ≡ beforeOf x → Begun b
         by none q f = absurd (false≢true (sym (ap (λ (b : Before). b .runs) f) ∙ t))
         by (some es) q f =
             let h = goes-on ws (g .n) (g .number) (g .view) es (by-head (meant ws) g ∙ q) in
             let c : b .count ≡ length es = ap (λ (b : Before). b .count) f in
             record { es = es; is = q; count = c; few = omega (arith, h .few); low = h .low }
 
-    module _ (b : Before) (x : Run b) (m : List ℕ) (t : ℕ) (s : Stored ws m (b .count) (g .sats) t) where
+    module _ (b : Before) (x : Begun b) (m : List ℕ) (t : ℕ) (s : Stored ws m (b .count) (g .sats) t) where
       words-are : (k : ℕ) → k ≡ nextOf g → set (set (set (set m 0 (g .n)) 1 k) 2 (g .view)) 3 t ≡ rowAfter ws g
       words-are k e =
           let mp : m ≡ sets ws (4 + length (x .es) * 4) (flat (g .sats)) = s .words ∙ (λ j. sets ws (4 + x .count j * 4) (flat (g .sats))) in

@@ -10,29 +10,15 @@ ghost use Rattle.gsv.specs.Answer.{slot, gsvData, gsvSentence};
 ghost use Rattle.rows.specs.Line.{lineOf};
 ghost use Rattle.gather.specs.Words.{rowWords, cellCount, wordOf, meant};
 ghost use Rattle.gather.specs.Put.{Put};
-ghost use Rattle.gather.specs.Code.{headed, onRow, beforeOf, Stored};
+ghost use Rattle.gather.specs.Code.{headed, beforeOf, Stored};
 use crate::lent;
+use crate::run;
+use crate::run::Run;
 use gsv::GsvData;
+use gsv::GsvHead;
 use gsv::GsvRecord;
 use gsv::Slot;
 use text::Held;
-
-// The line goes on with the run that stands in the row.
-fn goes_on(row: &[u32], n: u32, number: u32, view: u32) -> bool
-    requires { ⌜ length (now row) ≡ rowWords ⌝ }
-    ensures { λ r. ⌜ r ≡ onRow (now (row .entry)) n number view ⌝ }
-{
-    if n != row[lent::N] {
-        return false;
-    }
-    if number != row[lent::NEXT] {
-        return false;
-    }
-    if view != row[lent::VIEW] {
-        return false;
-    }
-    lent::row_stands(row)
-}
 
 // How many entries stand before a line that starts a run or goes on with one; `runs` is false where it does neither.
 pub struct Before {
@@ -44,25 +30,29 @@ fn so_far(row: &[u32], n: u32, number: u32, view: u32) -> Before
     requires { ⌜ length (now row) ≡ rowWords ⌝ }
     ensures { λ r. ⌜ r ≡ beforeOf (sofar (meant (now (row .entry))) (headed n number view)) ⌝ }
 {
+    let run = Run {
+        n: row[lent::N],
+        next: row[lent::NEXT],
+        view: row[lent::VIEW],
+    };
+    let head = GsvHead {
+        count: n,
+        index: number,
+        view: view,
+    };
+    if !run::runs(run, head) {
+        return Before {
+            runs: false,
+            count: 0,
+        };
+    }
     if number == 1 {
-        if n < 1 {
-            return Before {
-                runs: false,
-                count: 0,
-            };
-        }
-        if lent::LINES < n {
-            return Before {
-                runs: false,
-                count: 0,
-            };
-        }
         return Before {
             runs: true,
             count: 0,
         };
     }
-    if !goes_on(row, n, number, view) {
+    if !lent::row_stands(row) {
         return Before {
             runs: false,
             count: 0,

@@ -39,7 +39,7 @@ fn stands(run: Run) -> bool
 }
 
 // Whether a line starts a run or goes on with this one.
-fn runs(run: Run, h: GsvHead) -> bool
+pub(crate) fn runs(run: Run, h: GsvHead) -> bool
     ensures { λ r. ⌜ r ≡ runsOn run (headOf h) ⌝ }
 {
     if h.index == 1 {

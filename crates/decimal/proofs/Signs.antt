@@ -1,5 +1,5 @@
 -- A signed number as the machine casts it: one that is not below zero fits without its sign, and one of 32 bits fits in 64. Assumes nothing.
-use Prim.Native.Nat.{ℕ, _^_, _<_}
+use Prim.Native.Nat.{_^_, _<_}
 use native.Mathlib.Omega.{arith}
 use mathlib.Core.Path.{_≡_, sym, subst}
 use mathlib.Core.Bool.{false, true≢false}

@@ -1,17 +1,16 @@
 -- What an accepted GSV line does to the words of its row, to the last word, and what it says.
-use Prim.Native.Nat.{ℕ, _+_, _*_}
+use Prim.Native.Nat.{ℕ, _+_}
 use mathlib.Core.Path.{_≡_}
 use mathlib.Core.List.{List, [], _∷_}
-use mathlib.Core.Bool.{Bool, true, false, _&&_, cond}
+use mathlib.Core.Bool.{cond}
 use mathlib.Core.Option.{Option, none, some}
 use lib.Dec.{eqb}
-use lib.ListN.{length, getD, set}
+use lib.ListN.{length, set}
 use lib.Seq.{sets}
 use Rattle.groups.specs.Log.{Gsv, Group}
 use Rattle.groups.specs.Step.{Open, Out, sofar, step}
 use Rattle.gsv.specs.Gsv.{Satellite}
-use Rattle.gather.specs.Words.{rowWords, cellAt, flat, meant, stands}
-use Rattle.gather.specs.declared.line.Before.{Before}
+use Rattle.gather.specs.Words.{rowWords, cellAt, flat, meant}
 use Rattle.gather.specs.declared.line.Outcome.{Outcome}
 use Rattle.gather.specs.declared.line.Outcome.the-variants.{NoRow, Nothing, Waiting, Complete}
 

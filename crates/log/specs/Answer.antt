@@ -8,9 +8,8 @@ use Rattle.frame.specs.Answer.{refused as refusal}
 use Rattle.gsa.specs.Answer.{row}
 use Rattle.gsv.specs.Gsv.{GsvSentence}
 use Rattle.sentence.specs.Answer.{recordOf, satellitesOf}
-use Rattle.lines.specs.Places.{lineAt, nextPlace}
 use Rattle.gather.specs.declared.line.Outcome.{Outcome}
-use Rattle.fed.specs.Line.{LogLine, blank, read, saidOf, gathers}
+use Rattle.fed.specs.Line.{LogLine, blank, read, gathers}
 use Rattle.log.specs.Step.{Step, refused, end, line, Stepped}
 use Rattle.log.specs.Walk.{Walk, barred, went, Walked}
 use Rattle.log.specs.declared.line.Line as Code

@@ -1,6 +1,6 @@
 -- `so_far` meets its contract: the head of the row's run is asked first, and then whether lines can leave the row. Assumes nothing.
 use native.Mathlib.Omega.{arith}
-use mathlib.Core.Path.{ap, sym, _∙_}
+use mathlib.Core.Path.{ap, sym}
 use denote.Ref.{now}
 use Rattle.gather.specs.Code.{beforeOf}
 use Rattle.gather.proofs.Tests.{failed, passed}

@@ -1,7 +1,6 @@
 -- `source_of` meets its contract: the system that the talker names. Assumes nothing.
 use mathlib.Core.Path.{ap}
 use Rattle.gsv.specs.Talker.{System}
-use Rattle.rows.specs.Key.{Source}
 use borrow.Author.Needs.{needs}
 use Rattle.gather.proofs.table.source_of.Statement.{statement}
 use Rattle.gather.proofs.table.source_of.Tie as tie

@@ -1,10 +1,4 @@
 -- `follow_line` meets its contract: a blank line does nothing. Assumes nothing.
-use mathlib.Core.Path.{sym, subst}
-use mathlib.Core.List.{[]}
-use denote.Ref.{now}
-use Rattle.fed.specs.Line.{acceptedGsv}
-use Rattle.log.specs.declared.line.Line.{Line}
-use Rattle.log.specs.Answer.{lineIn, Follows}
 use borrow.Author.Needs.{needs}
 use Rattle.log.proofs.follow.follow_line.Statement.{statement}
 use Rattle.log.proofs.follow.follow_line.Tie as tie

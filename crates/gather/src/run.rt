@@ -91,22 +91,22 @@ fn follow(run: Run, h: GsvHead) -> RunAfter
     }
 }
 
-// The words of a run: its three numbers.
-const HEAD: usize = 3;
+// The words of a run: its three numbers, where a row has them too.
+const RUN: usize = 3;
 
 // How many words the heads of a table's rows have.
-pub const WORDS: usize = table::ROWS * HEAD;
+pub const WORDS: usize = table::ROWS * RUN;
 
 // The run of a row.
 fn run_at(heads: &[u32], row: usize) -> Run
     requires { ⌜ (length (now heads) ≡ headWords) × (row < rowCount) ⌝ }
     ensures { λ r. ⌜ r ≡ runAt (now (heads .entry)) row ⌝ }
 {
-    let at = row * HEAD;
+    let at = row * RUN;
     Run {
         n: heads[at],
-        next: heads[at + 1],
-        view: heads[at + 2],
+        next: heads[at + lent::NEXT],
+        view: heads[at + lent::VIEW],
     }
 }
 
@@ -114,10 +114,10 @@ fn set_run(heads: &mut [u32], row: usize, run: Run)
     requires { ⌜ (length (now heads) ≡ headWords) × (row < rowCount) ⌝ }
     ensures { λ _. ⌜ now (heads .exit) ≡ setRun (now (heads .entry)) row run ⌝ }
 {
-    let at = row * HEAD;
+    let at = row * RUN;
     heads[at] = run.n;
-    heads[at + 1] = run.next;
-    heads[at + 2] = run.view;
+    heads[at + lent::NEXT] = run.next;
+    heads[at + lent::VIEW] = run.view;
 }
 
 // What an accepted GSV line with this head does to the words of heads, whatever they hold.

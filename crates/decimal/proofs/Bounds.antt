@@ -6,14 +6,14 @@ use native.Mathlib.Nat.{mul-le-mul-right}
 use mathlib.Core.Path.{_≡_, refl, ap, subst}
 use mathlib.Core.Bool.{Bool, true, false, cond, _&&_}
 use mathlib.Core.List.{List, [], _∷_}
-use mathlib.Core.Option.{Option, none, some}
+use mathlib.Core.Option.{Option, none, some, Option·map}
 use lib.ListN.{length}
 use lib.Dec.{leb, ltb, eqb}
 use borrow.Author.Tests.{leb-true, ltb-true}
 use Rattle.text.specs.Bytes.{byte}
 use Rattle.text.specs.Reader.{got}
 use Rattle.text.specs.Number.{leadingDigits, afterDigits, valueFrom, onlyDigits}
-use Rattle.decimal.specs.Decimal.{Limits, Decimal, withoutSign, text, fromComma, fraction, inLimits, within, plain, orNumber, decimal}
+use Rattle.decimal.specs.Decimal.{Limits, Decimal, withoutSign, negative, text, fromComma, fraction, inLimits, within, digits, plain, orNumber, decimal}
 use Rattle.text.specs.Placed.{Reads}
 use Rattle.text.proofs.Places.{took}
 use Rattle.decimal.specs.Answer.{decimalAt}
@@ -23,7 +23,6 @@ use Rattle.decimal.proofs.Power.{under, sum-power}
 use Rattle.decimal.proofs.Decimals.{value-lt}
 
 pub record Bounded (lim : Limits) (d : Decimal) : Type 0 where
-  pub plus : d .minus ≡ false
   pub few : d .decimals ≤ lim .after
   pub fewer : d .decimals < lim .all
   pub small : d .size < 10 ^ lim .all
@@ -40,7 +39,7 @@ sized lim v m w n z h k a b c =
     let p = under (m + n) (lim .all) c in
     let q = sum-power m n in
     let r : 10 ^ m * 10 ^ n ≤ 10 ^ lim .before * 10 ^ n = mul-le-mul-right (10 ^ n) (under m (lim .before) a) in
-    record { plus = refl; few = b; fewer = omega arith; small = omega arith; front = omega arith }
+    record { few = b; fewer = omega arith; small = omega arith; front = omega arith }
 
 pub record Fit (lim : Limits) (m n : ℕ) : Type 0 where
   pub before : m ≤ lim .before
@@ -68,8 +67,8 @@ tail (b ∷ l) es e = by (eqb b (byte ".") && onlyDigits l) e
     by true e = let h : leadingDigits l ≡ es = cc in subst (λ (x : List ℕ). Tail (b ∷ l) x) h (record { lt = λ v. value-lt v l })
     by false e = let y : _≡_ {A = ℕ} 0 1 = cc in absurd (omega arith)
 
-pub plain-bounded : (lim : Limits) (t : List ℕ) {d : Decimal} → plain lim t ≡ some d → Bounded lim d
-plain-bounded lim t {d} e = by (ltb 0 (length (leadingDigits t))) (fraction (afterDigits t)) refl refl e
+digits-bounded : (lim : Limits) (t : List ℕ) {d : Decimal} → digits lim t ≡ some d → Bounded lim d
+digits-bounded lim t {d} e = by (ltb 0 (length (leadingDigits t))) (fraction (afterDigits t)) refl refl e
   where
     in-limits : (es : List ℕ) (u : Bool) → inLimits lim (length (leadingDigits t)) (length es) ≡ u → 0 < length (leadingDigits t) → fraction (afterDigits t) ≡ some es
         → cond {A = Option Decimal} u (some (withoutSign (valueFrom (valueFrom 0 (leadingDigits t)) es) (length es))) none ≡ some d → Bounded lim d
@@ -87,6 +86,22 @@ plain-bounded lim t {d} e = by (ltb 0 (length (leadingDigits t))) (fraction (aft
     by true (some es) g h e = in-limits es (inLimits lim (length (leadingDigits t)) (length es)) refl (ltb-true _ _ g) h e
     by false f g h e = let y : _≡_ {A = ℕ} 0 1 = cc in absurd (omega arith)
 
+-- a sign changes none of it
+plain-bounded : (lim : Limits) (t : List ℕ) {d : Decimal} → plain lim t ≡ some d → Bounded lim d
+plain-bounded lim [] e = let y : _≡_ {A = ℕ} 0 1 = cc in absurd (omega arith)
+plain-bounded lim (b ∷ t) {d} e = by (eqb b (byte "-")) e
+  where
+    behind : (o : Option Decimal) → digits lim t ≡ o → Option·map negative o ≡ some d → Bounded lim d
+    behind none f e = let y : _≡_ {A = ℕ} 0 1 = cc in absurd (omega arith)
+    behind (some d′) f e =
+        let h : negative d′ ≡ d = cc in
+        let k = digits-bounded lim t f in
+        subst (λ (x : Decimal). Bounded lim x) h (record { few = k .few; fewer = k .fewer; small = k .small; front = k .front })
+
+    by : (u : Bool) → cond u (Option·map negative (digits lim t)) (digits lim (b ∷ t)) ≡ some d → Bounded lim d
+    by true e = behind (digits lim t) refl e
+    by false e = digits-bounded lim (b ∷ t) e
+
 -- a decimal that a place holds is within the limits
 pub bounded : (lim : Limits) (l : List ℕ) {d : Decimal} {m : List ℕ} → decimal lim l ≡ got (some d) m → Bounded lim d
 unfolding decimal
@@ -103,6 +118,6 @@ bounded lim l {d} {m} e = by (eqb (length (text l)) 0) e
     by false e = plainly (plain lim (text l)) refl e
 
 -- the same of the code's answer
-pub held : {s : List ℕ} {at : ℕ} (lim : Limits) {r : DecimalAt} {n k p : ℕ} → Reads s at (decimal lim) (decimalAt r) → r ≡ Is n k p
-    → Bounded lim (withoutSign n k)
+pub held : {s : List ℕ} {at : ℕ} (lim : Limits) {r : DecimalAt} {m : Bool} {n k p : ℕ} → Reads s at (decimal lim) (decimalAt r)
+    → r ≡ Is m n k p → Bounded lim (record { minus = m; size = n; decimals = k })
 held lim t e = bounded lim _ (took t (ap decimalAt e) .reads)

@@ -1,12 +1,12 @@
 -- One operation on two values that are not negative is one rounding of the exact result, by whichever fractions the operands are written. Assumes nothing.
 use mathlib.Core.Path.{_≡_, refl, sym, ap, _∙_, subst}
-use Prim.Native.Nat.{ℕ, _-_, _*_, _^_, _≤_, _<_, min}
+use Prim.Native.Nat.{ℕ, zero, suc, _+_, _-_, _*_, _/_, _%_, _^_, _≤_, _<_, min, compare}
 use native.Mathlib.Nat.{mul-one, mul-comm, mul-assoc, mul-left-comm, mul-right-comm, mul-pos, zero-mul}
 use native.Mathlib.Omega.{arith}
 use mathlib.Core.Bool.{Bool, true, false, cond, true≢false}
-use lib.Dec.{T, eqb, le→leb, eqb→eq, lit<}
+use lib.Dec.{T, eqb, ltb, le→leb, eqb→eq, lit<}
 use lib.IntN.{ℤ, pos}
-use lib.Ieee.{Float, nan, inf, fin, Format, prec, up, down, round, div, ofInt, inFloat}
+use lib.Ieee.{Float, nan, inf, fin, Format, prec, emax, low, up, down, size, nearest, odd, units, round, neg, div, ofInt, inFloat}
 use lib.Ieee.Fits.{down-pos}
 use lib.Ieee.Exact.{HasValue}
 use lib.Ieee.Back.{round-whole}
@@ -66,6 +66,25 @@ div-whole f a b h B k =
     ∙ ap (λ (z : ℕ). round f false z (b * 1)) (mul-one a)
     ∙ ap (λ (z : ℕ). round f false a z) (mul-one b)
 
+-- ---- a sign: the negation of the nearest value is the nearest value to the negation, of zero too
+neg-odd : (d q k l : ℕ) → neg (odd d false q k l) ≡ odd d true q k l
+unfolding neg odd
+neg-odd d zero k l = refl
+neg-odd d (suc q) k l = refl
+
+neg-cond : (t : Bool) (x x′ y y′ : Float) → neg x ≡ x′ → neg y ≡ y′ → neg (cond t x y) ≡ cond t x′ y′
+neg-cond true x x′ y y′ e f = e
+neg-cond false x x′ y y′ e f = f
+
+pub neg-round : (f : Format) (a c : ℕ) → neg (round f false a c) ≡ round f true a c
+unfolding neg round units
+neg-round f a c =
+    let n = a * 2 ^ low f in
+    let k = size (n / c) - prec f in
+    let u = c * 2 ^ k in
+    let q = nearest (n / u) (compare (n % u * 2) u) in
+    neg-cond (ltb (q * 2 ^ k) (2 ^ (low f + suc (emax f)))) (odd (suc (prec f)) false q k (low f)) (odd (suc (prec f)) true q k (low f)) (inf false) (inf true) (neg-odd (suc (prec f)) q k (low f)) refl
+
 -- a whole number and a power of ten that the format holds: one division is one rounding
 pub divided : (f : Format) (n k : ℕ) {p : ℕ} → n ≤ 2 ^ prec f → k ≤ 9 → 10 ^ k ≤ 2 ^ prec f → p ≡ 10 ^ min k 9
     → div f (ofInt f (pos n)) (ofInt f (pos p)) ≡ round f false n (10 ^ k)
@@ -73,7 +92,7 @@ divided f n k h j i e =
     ap (λ (x : ℕ). div f (ofInt f (pos n)) (ofInt f (pos x))) (capped k j e) ∙ div-whole f n (10 ^ k) h (ten-pos k) i
 
 -- digits scaled to billionths are the same fraction, and so the same rounding
-pub of-billionths : (f : Format) (n k : ℕ) → k ≤ 9 → round f false (n * 10 ^ (9 - k)) (10 ^ 9) ≡ round f false n (10 ^ k)
-of-billionths f n k h =
+pub of-billionths : (f : Format) (minus : Bool) (n k : ℕ) → k ≤ 9 → round f minus (n * 10 ^ (9 - k)) (10 ^ 9) ≡ round f minus n (10 ^ k)
+of-billionths f minus n k h =
     let e : n * 10 ^ (9 - k) * 10 ^ k ≡ n * 10 ^ 9 = mul-right-comm n (10 ^ (9 - k)) (10 ^ k) ∙ mul-assoc n (10 ^ k) (10 ^ (9 - k)) ∙ ap (λ (x : ℕ). n * x) (parts k 9 h) in
-    round-same f false (n * 10 ^ (9 - k)) (10 ^ 9) n (10 ^ k) (ten-pos 9) (ten-pos k) e
+    round-same f minus (n * 10 ^ (9 - k)) (10 ^ 9) n (10 ^ k) (ten-pos 9) (ten-pos k) e

@@ -6,16 +6,16 @@ use native.Mathlib.Omega.{arith}
 use mathlib.Core.Path.{_≡_, refl, ap, sym, _∙_, subst}
 use mathlib.Core.Bool.{Bool, true, false, cond, _&&_}
 use mathlib.Core.List.{List, [], _∷_, _++_, append-nil}
-use mathlib.Core.Option.{Option, none, some}
+use mathlib.Core.Option.{Option, none, some, Option·map}
 use lib.ListN.{length, length-append}
 use lib.Dec.{ltb, eqb}
 use borrow.Author.Tests.{lt-ltb, ltb-true, eqb-true, ne-eqb}
 use Rattle.text.specs.Bytes.{byte}
 use Rattle.text.specs.Reader.{Parse, refuse, got, Number}
-use Rattle.text.specs.Number.{AllDigits, leadingDigits, afterDigits, valueFrom, onlyDigits}
+use Rattle.text.specs.Number.{AllDigits, isDigit, leadingDigits, afterDigits, valueFrom, onlyDigits}
 use Rattle.text.proofs.Runs.{together, begin-digits, digits-front, after-front, value-append}
-use Rattle.decimal.specs.Decimal.{Limits, Decimal, withoutSign, text, fromComma, fraction, inLimits, within, plain, orNumber, decimal}
-use Rattle.decimal.specs.Plain.{Digits, Plain, unpointed, pointed}
+use Rattle.decimal.specs.Decimal.{Limits, Decimal, withoutSign, negative, text, fromComma, fraction, inLimits, within, digits, plain, orNumber, decimal}
+use Rattle.decimal.specs.Plain.{Digits, Unsigned, unpointed, pointed, Plain, bare, minus}
 use Rattle.decimal.proofs.Decimals.{fit}
 use Rattle.decimal.proofs.Bounds.{Fit, fitting}
 
@@ -53,39 +53,39 @@ behind (b ∷ l) {es} e = by (eqb b (byte ".")) (ltb 0 (length (leadingDigits l)
     by true false v p q r e = let y : _≡_ {A = ℕ} 0 1 = cc in absurd (omega arith)
     by false u v p q r e = let y : _≡_ {A = ℕ} 0 1 = cc in absurd (omega arith)
 
--- what the definition takes is a plain decimal
-pub plain-says : (lim : Limits) (t : List ℕ) {d : Decimal} → plain lim t ≡ some d → Plain lim t d
-plain-says lim t {d} e = by (ltb 0 (length (leadingDigits t))) (fraction (afterDigits t)) refl refl e
+-- what the definition takes is digits within the limits
+digits-says : (lim : Limits) (t : List ℕ) {d : Decimal} → digits lim t ≡ some d → Unsigned lim t d
+digits-says lim t {d} e = by (ltb 0 (length (leadingDigits t))) (fraction (afterDigits t)) refl refl e
   where
     joined : {m es : List ℕ} → afterDigits t ≡ m → Behind m es → 0 < length (leadingDigits t) → Fit lim (length (leadingDigits t)) (length es)
-        → Plain lim t (withoutSign (valueFrom (valueFrom 0 (leadingDigits t)) es) (length es))
+        → Unsigned lim t (withoutSign (valueFrom (valueFrom 0 (leadingDigits t)) es) (length es))
     joined g end z f =
         let k : leadingDigits t ≡ t = sym (append-nil (leadingDigits t)) ∙ ap (λ (x : List ℕ). leadingDigits t ++ x) (sym g) ∙ together t in
-        subst (λ (x : List ℕ). Plain lim x (withoutSign (valueFrom 0 (leadingDigits t)) 0)) k
+        subst (λ (x : List ℕ). Unsigned lim x (withoutSign (valueFrom 0 (leadingDigits t)) 0)) k
         (unpointed (record { atLeastOne = z; all = begin-digits t }) (f .before) (omega (arith, f .all)))
     joined {es = es} g (point p) z f =
         let k : leadingDigits t ++ (byte "." ∷ es) ≡ t = ap (λ (x : List ℕ). leadingDigits t ++ x) (sym g) ∙ together t in
-        let w : Plain lim (leadingDigits t ++ (byte "." ∷ es)) (withoutSign (valueFrom 0 (leadingDigits t ++ es)) (length es)) = pointed {ds = leadingDigits t} {es = es} (record { atLeastOne = z; all = begin-digits t }) p (f .before) (f .after) (f .all) in
-        subst (λ (x : List ℕ). Plain lim x (withoutSign (valueFrom (valueFrom 0 (leadingDigits t)) es) (length es))) k
-        (subst (λ (n : ℕ). Plain lim (leadingDigits t ++ (byte "." ∷ es)) (withoutSign n (length es))) (value-append 0 (leadingDigits t) es) w)
+        let w : Unsigned lim (leadingDigits t ++ (byte "." ∷ es)) (withoutSign (valueFrom 0 (leadingDigits t ++ es)) (length es)) = pointed {ds = leadingDigits t} {es = es} (record { atLeastOne = z; all = begin-digits t }) p (f .before) (f .after) (f .all) in
+        subst (λ (x : List ℕ). Unsigned lim x (withoutSign (valueFrom (valueFrom 0 (leadingDigits t)) es) (length es))) k
+        (subst (λ (n : ℕ). Unsigned lim (leadingDigits t ++ (byte "." ∷ es)) (withoutSign n (length es))) (value-append 0 (leadingDigits t) es) w)
 
     within-limits : (es : List ℕ) (u : Bool) → inLimits lim (length (leadingDigits t)) (length es) ≡ u → 0 < length (leadingDigits t) → Behind (afterDigits t) es
-        → cond {A = Option Decimal} u (some (withoutSign (valueFrom (valueFrom 0 (leadingDigits t)) es) (length es))) none ≡ some d → Plain lim t d
+        → cond {A = Option Decimal} u (some (withoutSign (valueFrom (valueFrom 0 (leadingDigits t)) es) (length es))) none ≡ some d → Unsigned lim t d
     within-limits es true f z g e =
         let h : withoutSign (valueFrom (valueFrom 0 (leadingDigits t)) es) (length es) ≡ d = cc in
-        subst (λ (x : Decimal). Plain lim t x) h (joined refl g z (fitting lim (length (leadingDigits t)) (length es) f))
+        subst (λ (x : Decimal). Unsigned lim t x) h (joined refl g z (fitting lim (length (leadingDigits t)) (length es) f))
     within-limits es false f z g e = let y : _≡_ {A = ℕ} 0 1 = cc in absurd (omega arith)
 
     by : (u : Bool) (f : Option (List ℕ)) → ltb 0 (length (leadingDigits t)) ≡ u → fraction (afterDigits t) ≡ f
-        → cond u (within lim (leadingDigits t) f) none ≡ some d → Plain lim t d
+        → cond u (within lim (leadingDigits t) f) none ≡ some d → Unsigned lim t d
     by true none g h e = let y : _≡_ {A = ℕ} 0 1 = cc in absurd (omega arith)
     by true (some es) g h e = within-limits es (inLimits lim (length (leadingDigits t)) (length es)) refl (ltb-true 0 (length (leadingDigits t)) g) (behind (afterDigits t) h) e
     by false f g h e = let y : _≡_ {A = ℕ} 0 1 = cc in absurd (omega arith)
 
--- a plain decimal is what the definition takes
+-- and such digits are what it takes
 module _ (lim : Limits) where
   taken : (t ds m es : List ℕ) → leadingDigits t ≡ ds → afterDigits t ≡ m → fraction m ≡ some es → 0 < length ds → inLimits lim (length ds) (length es) ≡ true
-      → plain lim t ≡ some (withoutSign (valueFrom (valueFrom 0 ds) es) (length es))
+      → digits lim t ≡ some (withoutSign (valueFrom (valueFrom 0 ds) es) (length es))
   taken t ds m es e f g z h =
       ap (λ (x : List ℕ). cond (ltb 0 (length x)) (within lim x (fraction (afterDigits t))) none) e
       ∙ ap (λ (x : List ℕ). cond (ltb 0 (length ds)) (within lim ds (fraction x)) none) f
@@ -93,14 +93,48 @@ module _ (lim : Limits) where
       ∙ ap (λ (u : Bool). cond u (within lim ds (some es)) none) (lt-ltb 0 (length ds) z)
       ∙ ap (λ (u : Bool). cond u (some (withoutSign (valueFrom (valueFrom 0 ds) es) (length es))) none) h
 
-  pub says-plain : {t : List ℕ} {d : Decimal} → Plain lim t d → plain lim t ≡ some d
-  says-plain (unpointed {ds} p h k) =
+  says-digits : {t : List ℕ} {d : Decimal} → Unsigned lim t d → digits lim t ≡ some d
+  says-digits (unpointed {ds} p h k) =
       taken ds ds [] [] (alone ds (p .all)) (nothing-after ds (p .all)) refl (p .atLeastOne) (fit lim (length ds) 0 h (omega arith) (omega arith))
-  says-plain (pointed {ds} {es} p q h k j) =
+  says-digits (pointed {ds} {es} p q h k j) =
       let digit-run : onlyDigits es ≡ true = ap (λ (x : List ℕ). ltb 0 (length x) && eqb (length (afterDigits es)) 0) (alone es (q .all)) ∙ ap (λ (x : List ℕ). ltb 0 (length es) && eqb (length x) 0) (nothing-after es (q .all)) ∙ ap (λ (u : Bool). u && true) (lt-ltb 0 (length es) (q .atLeastOne)) in
       let part : fraction (byte "." ∷ es) ≡ some es = ap (λ (u : Bool). cond u (some (leadingDigits es)) none) digit-run ∙ ap (λ (x : List ℕ). some x) (alone es (q .all)) in
       taken (ds ++ (byte "." ∷ es)) ds (byte "." ∷ es) es (digits-front ds (byte "." ∷ es) (p .all) refl) (after-front ds (byte "." ∷ es) (p .all) refl) part (p .atLeastOne) (fit lim (length ds) (length es) h k j)
       ∙ ap (λ (n : ℕ). some (withoutSign n (length es))) (sym (value-append 0 ds es))
+
+  -- digits do not begin with a sign
+  no-sign : (t : List ℕ) {d : Decimal} → digits lim t ≡ some d → plain lim t ≡ some d
+  no-sign [] e = e
+  no-sign (b ∷ t) {d} e = by (eqb b (byte "-")) refl
+    where
+      by : (u : Bool) → eqb b (byte "-") ≡ u → cond u (Option·map negative (digits lim t)) (digits lim (b ∷ t)) ≡ some d
+      by true f =
+          let g : isDigit b ≡ false = ap isDigit (eqb-true b (byte "-") f) in
+          let h : digits lim (b ∷ t) ≡ none = ap (λ (u : Bool). cond (ltb 0 (length (cond u (b ∷ leadingDigits t) []))) (within lim (cond u (b ∷ leadingDigits t) []) (fraction (cond u (afterDigits t) (b ∷ t)))) none) g in
+          let y : _≡_ {A = ℕ} 0 1 = cc in
+          absurd (omega arith)
+      by false f = e
+
+  -- what the definition takes is a plain decimal
+  plain-says : (t : List ℕ) {d : Decimal} → plain lim t ≡ some d → Plain lim t d
+  plain-says [] e = let y : _≡_ {A = ℕ} 0 1 = cc in absurd (omega arith)
+  plain-says (b ∷ t) {d} e = by (eqb b (byte "-")) refl e
+    where
+      behind : (o : Option Decimal) → b ≡ byte "-" → digits lim t ≡ o → Option·map negative o ≡ some d → Plain lim (b ∷ t) d
+      behind none f g e = let y : _≡_ {A = ℕ} 0 1 = cc in absurd (omega arith)
+      behind (some d′) f g e =
+          let h : negative d′ ≡ d = cc in
+          let w : Plain lim (byte "-" ∷ t) (negative d′) = minus (digits-says lim t g) in
+          subst (λ (x : Decimal). Plain lim (b ∷ t) x) h (subst (λ (x : ℕ). Plain lim (x ∷ t) (negative d′)) (sym f) w)
+
+      by : (u : Bool) → eqb b (byte "-") ≡ u → cond u (Option·map negative (digits lim t)) (digits lim (b ∷ t)) ≡ some d → Plain lim (b ∷ t) d
+      by true f e = behind (digits lim t) (eqb-true b (byte "-") f) refl e
+      by false f e = bare (digits-says lim (b ∷ t) e)
+
+  -- a plain decimal is what the definition takes
+  says-plain : {t : List ℕ} {d : Decimal} → Plain lim t d → plain lim t ≡ some d
+  says-plain (bare {t} u) = no-sign t (says-digits u)
+  says-plain (minus u) = ap (λ (o : Option Decimal). Option·map negative o) (says-digits u)
 
 -- what stands at a place is a text, and no plain decimal within the limits
 pub record NoDecimal (lim : Limits) (t : List ℕ) : Type 0 where
@@ -149,9 +183,13 @@ module _ (lim : Limits) (l : List ℕ) where
   pub decimal-where : {d : Decimal} → Plain lim (text l) d → decimal lim l ≡ got (some d) (fromComma l)
   decimal-where p = standing (length-of p) ∙ ap by-plain (says-plain lim p)
     where
+      some-digits : {t : List ℕ} {d : Decimal} → Unsigned lim t d → 0 < length t
+      some-digits (unpointed q h k) = q .atLeastOne
+      some-digits (pointed {ds} {es} q r h k j) = omega (arith, length-append ds (byte "." ∷ es), q .atLeastOne)
+
       length-of : {t : List ℕ} {d : Decimal} → Plain lim t d → 0 < length t
-      length-of (unpointed q h k) = q .atLeastOne
-      length-of (pointed {ds} {es} q r h k j) = omega (arith, length-append ds (byte "." ∷ es), q .atLeastOne)
+      length-of (bare u) = some-digits u
+      length-of (minus {t} u) = omega arith
 
   -- a decimal only there
   pub decimal-only : {d : Decimal} {m : List ℕ} → decimal lim l ≡ got (some d) m → Plain lim (text l) d × (m ≡ fromComma l)

@@ -1,9 +1,9 @@
 -- The ranges of the decimals that a place can hold, for readers that go on from them. They follow from the digit limits.
 -- Assumes nothing.
-use Prim.Native.Nat.{ℕ, _*_, _-_, _^_, _≤_, _<_}
+use Prim.Native.Nat.{ℕ, zero, suc, _*_, _-_, _^_, _≤_, _<_}
 use native.Mathlib.Omega.{arith}
 use mathlib.Core.Path.{_≡_, refl, ap, sym, subst}
-use mathlib.Core.Bool.{Bool}
+use mathlib.Core.Bool.{Bool, true, false}
 use mathlib.Core.List.{List}
 use mathlib.Core.Option.{Option, none, some, Option·map}
 use lib.IntN.{natAbs}
@@ -49,9 +49,14 @@ pub record LongFacts (d : Long) : Type 0 where
   pub small : d .billionths < 1000000000000
   pub scaled : d .billionths ≡ d .size * 10 ^ (9 - d .decimals)
 
+-- a sign leaves the size
+pub size-of : (n : ℕ) (minus : Bool) → natAbs (signed n minus) ≡ n
+size-of n false = refl
+size-of zero true = refl
+size-of (suc n) true = refl
+
 short-known : (d : Decimal) → Bounded short d → ShortFacts (shortOf d)
-short-known d b =
-    record { small = subst (λ (t : Bool). natAbs (signed (d .size) t) < 10000000) (sym (b .plus)) (b .small); few = omega (arith, b .fewer) }
+short-known d b = record { small = rw (size-of (d .size) (d .minus)) (b .small); few = omega (arith, b .fewer) }
 
 long-known : (d : Decimal) → Bounded long d → LongFacts (longOf d)
 long-known d b = record { few = b .few; front = b .front; small = minutes-lt (d .size) (d .decimals) (b .front) (b .few); scaled = refl }

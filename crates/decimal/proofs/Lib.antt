@@ -3,6 +3,7 @@ pub mod Exact
 pub mod Runs
 pub mod Decimals
 pub mod Cases
+pub mod Order
 pub mod Bounds
 pub mod Steps
 pub mod Facts
@@ -11,3 +12,4 @@ pub mod NotNan
 pub mod Nearest
 pub mod Number
 pub mod Signs
+pub mod Negation

@@ -5,14 +5,14 @@ use mathlib.Core.Path.{_≡_, refl, sym, ap, _∙_, subst}
 use Prim.Native.Nat.{ℕ, suc, _+_, _-_, _*_, _/_, _%_, _^_, _≤_, _<_, compare, Ordering, Ordering·lt, Ordering·eq, Ordering·gt}
 use native.Mathlib.Nat.{le-trans, le-of-eq, le-of-lt, mul-comm, mul-assoc, mul-left-comm, mul-right-comm, mul-pos, add-mul, one-mul, suc-mul, mul-le-mul-left, mul-le-mul-right, mod-lt, div-add-mod', le-div-iff-mul-le, zero-mul, mul-one, pow-suc, mul-lt-mul-of-pos-right, lt-of-mul-lt-mul-right, lt-of-lt-of-le}
 use native.Mathlib.Omega.{arith}
-use mathlib.Core.Bool.{Bool, true, false, not}
+use mathlib.Core.Bool.{Bool, true, false, not, true≢false}
 use mathlib.Core.List.{List}
 use mathlib.Core.Option.{some}
 use lib.Dec.{T, isLe, isEq, eqb, ltb, leb→le, nleb→lt, eqb→eq, eqb-refl, lit≤}
 use lib.IntN.{natAbs}
 use lib.Arith.{lt-of-le-ne}
 use lib.Pow.{pow-add, pow-pos, pow-mono}
-use lib.Ieee.{Float, Format, binary32, binary64, prec, emax, low, size, nearest, round, fits}
+use lib.Ieee.{Float, nan, inf, fin, Format, binary32, binary64, prec, emax, low, size, nearest, round, neg, fits}
 use lib.Ieee.Digits.{size-reaches}
 use lib.Ieee.Fits.{two, round-fits}
 use lib.Ieee.Exact.{HasValue}
@@ -24,8 +24,9 @@ use Rattle.text.specs.Reader.{got}
 use Rattle.decimal.specs.Decimal.{Limits, Decimal, short, long}
 use Rattle.decimal.specs.Places.{Short, Long, shortOf, longOf, signed, floatOf, shortDecimal, longDecimal}
 use Rattle.decimal.proofs.Power.{ten-pos}
+use Rattle.decimal.proofs.Exact.{neg-round}
 use Rattle.decimal.proofs.Bounds.{Bounded}
-use Rattle.decimal.proofs.Facts.{from}
+use Rattle.decimal.proofs.Facts.{from, size-of}
 
 abbrev Cmp : Ordering → ℕ → ℕ → Type 0
 Cmp Ordering·lt a b = a < b
@@ -132,12 +133,12 @@ no-nearer f a c m t C M = by (ltb t (drop (prec f) (a * 2 ^ low f) c)) refl
     by true e = fine (ltb-true t (drop (prec f) (a * 2 ^ low f) c) e)
     by false e = coarse (ltb-false t (drop (prec f) (a * 2 ^ low f) c) e)
 
--- x is the value of the format that lies nearest to a / c, and not negative: the format holds it, it is so many units of the format's
--- smallest value, and no value of the format lies nearer
-pub record Nearest (f : Format) (x : Float) (a c : ℕ) : Type 0 where
+-- x is the value of the format that lies nearest to a / c, or to -a / c where `minus` says so: the format holds it, it has that sign, zero
+-- too, it is so many units of the format's smallest value, and no value of the format lies nearer
+pub record Nearest (f : Format) (minus : Bool) (x : Float) (a c : ℕ) : Type 0 where
   pub held : T (fits f x)
   pub units : ℕ
-  pub value : HasValue x false units (2 ^ low f)
+  pub value : HasValue x minus units (2 ^ low f)
   pub none-nearer : (m t : ℕ) → m < 2 ^ prec f → apart (units * c) (a * 2 ^ low f) ≤ apart (m * 2 ^ t * c) (a * 2 ^ low f)
 
 -- it lies no farther off than zero does, so that below 2 ^ emax nothing overflows
@@ -162,12 +163,25 @@ under f a c e C h E =
     fits-in : (e l m : ℕ) → e ≤ m → suc (e + l) ≤ l + suc m
     fits-in e l m h = omega arith
 
-pub round-nearest : (f : Format) (a c e : ℕ) → 0 < c → a < 2 ^ e * c → e ≤ emax f → Nearest f (round f false a c) a c
-round-nearest f a c e C h E =
+-- a negation has the other sign
+turned-value : (x : Float) (a c : ℕ) → HasValue x false a c → HasValue (neg x) true a c
+unfolding neg
+turned-value nan a c h = absurd h
+turned-value (inf s) a c h = absurd h
+turned-value (fin true m e) a c h = absurd (true≢false (h .0))
+turned-value (fin false m e) a c h = (refl, h .1)
+
+round-value : (f : Format) (minus : Bool) (a c : ℕ) → grid f a c < overflow f → HasValue (round f minus a c) minus (grid f a c) (2 ^ low f)
+round-value f false a c h = round-val f a c h
+round-value f true a c h =
+    subst (λ (x : Float). HasValue x true (grid f a c) (2 ^ low f)) (neg-round f a c) (turned-value (round f false a c) (grid f a c) (2 ^ low f) (round-val f a c h))
+
+pub round-nearest : (f : Format) (minus : Bool) (a c e : ℕ) → 0 < c → a < 2 ^ e * c → e ≤ emax f → Nearest f minus (round f minus a c) a c
+round-nearest f minus a c e C h E =
     record {
-      held = round-fits f false a c;
+      held = round-fits f minus a c;
       units = grid f a c;
-      value = round-val f a c (under f a c e C h E);
+      value = round-value f minus a c (under f a c e C h E);
       none-nearer = λ m t M. no-nearer f a c m t C M;
     }
 
@@ -175,27 +189,35 @@ below-times : (x y c : ℕ) → x < y → 0 < c → x < y * c
 below-times x y c h C = lt-of-lt-of-le h (le-trans (le-of-eq (sym (mul-one y))) (mul-le-mul-left y C))
 
 -- a decimal within the limits, where all its digits write less than 2 ^ e
-decimal-nearest : (f : Format) (lim : Limits) (d : Decimal) (e : ℕ) → Bounded lim d → 10 ^ lim .all ≤ 2 ^ e → e ≤ emax f → Nearest f (floatOf f d) (d .size) (10 ^ d .decimals)
+decimal-nearest : (f : Format) (lim : Limits) (d : Decimal) (e : ℕ) → Bounded lim d → 10 ^ lim .all ≤ 2 ^ e → e ≤ emax f → Nearest f (d .minus) (floatOf f d) (d .size) (10 ^ d .decimals)
 decimal-nearest f lim d e b h E =
     let c = 10 ^ d .decimals in
-    subst (λ (s : Bool). Nearest f (round f s (d .size) c) (d .size) c) (sym (b .plus))
-    (round-nearest f (d .size) c e (ten-pos (d .decimals)) (below-times (d .size) (2 ^ e) c (lt-of-lt-of-le (b .small) h) (ten-pos (d .decimals))) E)
+    round-nearest f (d .minus) (d .size) c e (ten-pos (d .decimals)) (below-times (d .size) (2 ^ e) c (lt-of-lt-of-le (b .small) h) (ten-pos (d .decimals))) E
+
+-- a short decimal's whole number and its float have one sign, which of zero the float alone tells
+pub record ShortNearest (d : Short) : Type 0 where
+  pub minus : Bool
+  pub whole : d .whole ≡ signed (natAbs (d .whole)) minus
+  pub float : Nearest binary32 minus (d .value) (natAbs (d .whole)) (10 ^ d .decimals)
 
 -- the float of every short and of every long decimal that is read
-pub short-read-nearest : (l : List ℕ) {d : Short} {m : List ℕ} → shortDecimal l ≡ got (some d) m
-    → Nearest binary32 (d .value) (natAbs (d .whole)) (10 ^ d .decimals)
+pub short-read-nearest : (l : List ℕ) {d : Short} {m : List ℕ} → shortDecimal l ≡ got (some d) m → ShortNearest d
 unfolding shortDecimal
 short-read-nearest l e =
     let h = from short shortOf l e in
     let d = h .of in
-    subst (λ (x : Short). Nearest binary32 (x .value) (natAbs (x .whole)) (10 ^ x .decimals)) (h .same)
-    (subst (λ (s : Bool). Nearest binary32 (floatOf binary32 d) (natAbs (signed (d .size) s)) (10 ^ d .decimals)) (sym (h .known .plus))
-    (decimal-nearest binary32 short d 24 (h .known) (lit≤ tt) (lit≤ tt)))
+    let k = size-of (d .size) (d .minus) in
+    subst (λ (x : Short). ShortNearest x) (h .same)
+    (record {
+      minus = d .minus;
+      whole = ap (λ (n : ℕ). signed n (d .minus)) (sym k);
+      float = rw k (decimal-nearest binary32 short d 24 (h .known) (lit≤ tt) (lit≤ tt));
+    })
 
 pub long-read-nearest : (l : List ℕ) {d : Long} {m : List ℕ} → longDecimal l ≡ got (some d) m
-    → Nearest binary64 (d .value) (d .size) (10 ^ d .decimals)
+    → Nearest binary64 (d .minus) (d .value) (d .size) (10 ^ d .decimals)
 unfolding longDecimal
 long-read-nearest l e =
     let h = from long longOf l e in
-    subst (λ (x : Long). Nearest binary64 (x .value) (x .size) (10 ^ x .decimals)) (h .same)
+    subst (λ (x : Long). Nearest binary64 (x .minus) (x .value) (x .size) (10 ^ x .decimals)) (h .same)
     (decimal-nearest binary64 long (h .of) 40 (h .known) (lit≤ tt) (lit≤ tt))

@@ -1,4 +1,5 @@
 -- What each answer of the code says.
+use mathlib.Core.Bool.{Bool}
 use mathlib.Core.Option.{Option, none, some}
 use Rattle.text.specs.Reader.{Number}
 use Rattle.text.specs.Placed.{Placed, refused, upto}
@@ -7,6 +8,9 @@ use Rattle.decimal.specs.Code.{Run}
 use Rattle.decimal.specs.Places.{Short, Long}
 use Rattle.decimal.specs.declared.Ran.{Ran}
 use Rattle.decimal.specs.declared.Ran.the-variants.{Over, Is as ARun}
+use Rattle.decimal.specs.declared.SignAt.{SignAt}
+use Rattle.decimal.specs.declared.UnsignedAt.{UnsignedAt}
+use Rattle.decimal.specs.declared.UnsignedAt.the-variants.{Absent as NoDigits, Is as SomeDigits, Number as NotDigits}
 use Rattle.decimal.specs.declared.DecimalAt.{DecimalAt}
 use Rattle.decimal.specs.declared.DecimalAt.the-variants.{Absent as NoDecimal, Is as ADecimal, Number as NotDecimal}
 use Rattle.decimal.specs.declared.ShortDecimal.{ShortDecimal}
@@ -20,10 +24,18 @@ abbrev pub ran : Ran → Placed Run
 ran Over = refused Number
 ran (ARun v n p) = upto (record { value = v; count = n }) p
 
+abbrev pub signAt : SignAt → Placed Bool
+signAt s = upto (s .minus) (s .at)
+
+abbrev pub unsignedAt : UnsignedAt → Placed (Option Decimal)
+unsignedAt NotDigits = refused Number
+unsignedAt (NoDigits p) = upto none p
+unsignedAt (SomeDigits n k p) = upto (some (withoutSign n k)) p
+
 abbrev pub decimalAt : DecimalAt → Placed (Option Decimal)
 decimalAt NotDecimal = refused Number
 decimalAt (NoDecimal p) = upto none p
-decimalAt (ADecimal n k p) = upto (some (withoutSign n k)) p
+decimalAt (ADecimal m n k p) = upto (some (record { minus = m; size = n; decimals = k })) p
 
 abbrev pub aShort : ShortDecimal → Short
 aShort d = record { whole = d .whole; decimals = d .decimals; value = d .value }
@@ -34,7 +46,7 @@ shortAt (NoShort p) = upto none p
 shortAt (AShort d p) = upto (some (aShort d)) p
 
 abbrev pub aLong : LongDecimal → Long
-aLong d = record { size = d .size; decimals = d .decimals; billionths = d .billionths; value = d .value }
+aLong d = record { minus = d .minus; size = d .size; decimals = d .decimals; billionths = d .billionths; value = d .value }
 
 abbrev pub longAt : LongAt → Placed (Option Long)
 longAt NotLong = refused Number

@@ -1,12 +1,14 @@
--- For the code, not for a reader of the scope: a run of digits, and where a place ends.
+-- For the code, not for a reader of the scope: a run of digits, where a place ends, and a place in the order in which it is read.
 use Prim.Native.Nat.{ℕ, _+_}
 use mathlib.Core.List.{List, [], _∷_}
-use mathlib.Core.Bool.{Bool, true, cond}
+use mathlib.Core.Bool.{Bool, true, false, cond}
+use mathlib.Core.Option.{Option, none, some}
 use lib.ListN.{length}
 use lib.Dec.{eqb, leb}
 use Rattle.text.specs.Bytes.{byte}
 use Rattle.text.specs.Reader.{refuse, got, Reader, Number}
 use Rattle.text.specs.Number.{leadingDigits, afterDigits, valueFrom}
+use Rattle.decimal.specs.Decimal.{Limits, Decimal, negative, text, fromComma, digits, orNumber}
 
 pub record Run : Type 0 where
   pub value : ℕ
@@ -23,3 +25,18 @@ run most value count l =
 abbrev pub atEnd : List ℕ → Bool
 atEnd [] = true
 atEnd (b ∷ l) = eqb b (byte ",")
+
+-- a minus sign, if one stands there
+unfoldable pub sign : Reader Bool
+sign [] = got false []
+sign (b ∷ l) = cond (eqb b (byte "-")) (got true l) (got false (b ∷ l))
+
+-- a place without a sign
+unfoldable pub unsigned : Limits → Reader (Option Decimal)
+unsigned lim l = cond (eqb (length (text l)) 0) (got none (fromComma l)) (orNumber (digits lim (text l)) (fromComma l))
+
+-- and with it: a sign alone is no decimal
+unfoldable pub withSign : Bool → Option Decimal → Reader (Option Decimal)
+withSign true none l = refuse Number
+withSign true (some d) l = got (some (negative d)) l
+withSign false o l = got o l

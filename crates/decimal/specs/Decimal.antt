@@ -1,9 +1,10 @@
 -- Plain decimals, and a decimal place. 01: "A plain decimal is one or more digits, optionally a point and one or more
--- digits. No sign. At a decimal place the text runs to the next comma or the end of data."
+-- digits. It may begin with one minus sign, which is not counted as a digit. At a decimal place the text runs to the next
+-- comma or the end of data."
 use Prim.Native.Nat.{ℕ, _+_}
 use mathlib.Core.List.{List, [], _∷_}
-use mathlib.Core.Bool.{Bool, false, cond, _&&_}
-use mathlib.Core.Option.{Option, none, some}
+use mathlib.Core.Bool.{Bool, true, false, cond, _&&_}
+use mathlib.Core.Option.{Option, none, some, Option·map}
 use lib.ListN.{length}
 use lib.Dec.{eqb, leb, ltb}
 use Rattle.text.specs.Bytes.{byte}
@@ -36,6 +37,10 @@ pub record Decimal : Type 0 where
 abbrev pub withoutSign : ℕ → ℕ → Decimal
 withoutSign n k = record { minus = false; size = n; decimals = k }
 
+-- the same digits behind a minus sign: of zero too, which is then minus zero
+abbrev pub negative : Decimal → Decimal
+negative d = record { minus = true; size = d .size; decimals = d .decimals }
+
 -- the text up to the next comma or the end, and what is left
 abbrev pub text : List ℕ → List ℕ
 text [] = []
@@ -58,10 +63,14 @@ within lim ds none = none
 within lim ds (some es) =
     cond (inLimits lim (length ds) (length es)) (some (withoutSign (valueFrom (valueFrom 0 ds) es) (length es))) none
 
--- one or more digits, optionally a point and one or more digits, within the limits: `Plain` says it in words, and
--- proofs/Exactly shows that the two are one
+-- one or more digits, optionally a point and one or more digits, within the limits
+abbrev pub digits : Limits → List ℕ → Option Decimal
+digits lim t = cond (ltb 0 (length (leadingDigits t))) (within lim (leadingDigits t) (fraction (afterDigits t))) none
+
+-- the same, or behind one minus sign: `Plain` says it in words, and proofs/Exactly shows that the two are one
 abbrev pub plain : Limits → List ℕ → Option Decimal
-plain lim t = cond (ltb 0 (length (leadingDigits t))) (within lim (leadingDigits t) (fraction (afterDigits t))) none
+plain lim [] = none
+plain lim (b ∷ t) = cond (eqb b (byte "-")) (Option·map negative (digits lim t)) (digits lim (b ∷ t))
 
 abbrev pub orNumber : Option Decimal → List ℕ → Parse (Option Decimal)
 orNumber none l = refuse Number

@@ -7,9 +7,12 @@ use lib.Ieee.{Float, Format, binary32, binary64, round}
 use Rattle.text.specs.Reader.{Reader, pure, _>>=_}
 use Rattle.decimal.specs.Decimal.{Decimal, decimal, short, long}
 
--- `n`, negative where `minus` says so
+-- `z`, negated where `minus` says so
+abbrev pub turned : ℤ → Bool → ℤ
+turned z minus = cond minus (negℤ z) z
+
 abbrev pub signed : ℕ → Bool → ℤ
-signed n minus = cond minus (negℤ (pos n)) (pos n)
+signed n minus = turned (pos n) minus
 
 -- the value of the format nearest to the decimal: its digits divided once by the power of ten. Minus zero is not zero
 abbrev pub floatOf : Format → Decimal → Float
@@ -24,8 +27,9 @@ pub record Short : Type 0 where
 abbrev pub shortOf : Decimal → Short
 shortOf d = record { whole = signed (d .size) (d .minus); decimals = d .decimals; value = floatOf binary32 d }
 
--- a long decimal: its digits, its count of decimals, the same in billionths, and the f64
+-- a long decimal: its sign, its digits, its count of decimals, the same in billionths, and the f64
 pub record Long : Type 0 where
+  pub minus : Bool
   pub size : ℕ
   pub decimals : ℕ
   pub billionths : ℕ
@@ -33,7 +37,13 @@ pub record Long : Type 0 where
 
 abbrev pub longOf : Decimal → Long
 longOf d =
-    record { size = d .size; decimals = d .decimals; billionths = d .size * 10 ^ (9 - d .decimals); value = floatOf binary64 d }
+    record {
+      minus = d .minus;
+      size = d .size;
+      decimals = d .decimals;
+      billionths = d .size * 10 ^ (9 - d .decimals);
+      value = floatOf binary64 d;
+    }
 
 unfoldable pub shortDecimal : Reader (Option Short)
 shortDecimal = do

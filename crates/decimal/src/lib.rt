@@ -1,16 +1,15 @@
-// Decimal places: a plain decimal within its digit limits, short or long, with the nearest float.
+// Decimal places: a plain decimal within its digit limits, short or long, with its sign and the nearest float.
 // One reader over the limits serves both lengths, and one power of ten all that scale.
 ghost use mathlib.Core.Path.{_≡_};
 ghost use Prim.Native.Nat.{_+_, _*_, _^_, _≤_, _<_, min};
-ghost use mathlib.Core.Bool.{false};
 ghost use lib.ListN.{drop};
 ghost use lib.Ieee.{binary32, binary64, round};
 ghost use Rattle.text.specs.Placed.{Reads};
 ghost use Rattle.decimal.specs.Decimal.{decimal, limits};
-ghost use Rattle.decimal.specs.Code.{run, atEnd};
-ghost use Rattle.decimal.specs.Places.{shortDecimal, longDecimal};
+ghost use Rattle.decimal.specs.Code.{run, atEnd, sign, unsigned};
+ghost use Rattle.decimal.specs.Places.{signed, shortDecimal, longDecimal};
 ghost use Rattle.decimal.specs.Bits.{bitsOf};
-ghost use Rattle.decimal.specs.Answer.{ran, decimalAt, shortAt, longAt};
+ghost use Rattle.decimal.specs.Answer.{ran, unsignedAt, signAt, decimalAt, shortAt, longAt};
 use text::Next;
 
 fn wide(x: u32) -> u64
@@ -96,44 +95,87 @@ fn ends(s: &[u8], at: usize) -> bool
     s[at] == b','
 }
 
-// A decimal place: absent, the digits as one number with their count of decimals, or the refusal Number.
-pub enum DecimalAt {
+// A decimal place without its sign: absent, the digits as one number with their count of decimals, or the refusal Number.
+pub enum UnsignedAt {
     Absent(usize),
     Is(u64, u32, usize),
     Number,
 }
 
-// A decimal place with its limits: the most digits in all, before the point and after it.
+// The digits of a decimal place with its limits: the most digits in all, before the point and after it.
+fn unsigned(s: &[u8], at: usize, all: u32, before: u32, after: u32) -> UnsignedAt
+    requires { ⌜ (before ≤ all) × (all ≤ 19) ⌝ }
+    ensures { λ r. ⌜ Reads (now (s .entry)) at (unsigned (limits all before after)) (unsignedAt r) × (now (s .exit) ≡ now (s .entry)) ⌝ }
+{
+    if ends(s, at) {
+        return UnsignedAt::Absent(at);
+    }
+    let Ran::Is(v, m, i) = run(s, at, 0, before) else {
+        return UnsignedAt::Number;
+    };
+    if m == 0 {
+        return UnsignedAt::Number;
+    }
+    if ends(s, i) {
+        return UnsignedAt::Is(v, 0, i);
+    }
+    let Next::At(j) = text::byte(s, i, b'.') else {
+        return UnsignedAt::Number;
+    };
+    let most = least(after, all - m);
+    let Ran::Is(w, k, e) = run(s, j, v, most) else {
+        return UnsignedAt::Number;
+    };
+    if k == 0 {
+        return UnsignedAt::Number;
+    }
+    if ends(s, e) {
+        return UnsignedAt::Is(w, k, e);
+    }
+    UnsignedAt::Number
+}
+
+// Whether a minus sign stands there, and the place behind it.
+pub struct SignAt {
+    pub minus: bool,
+    pub at: usize,
+}
+
+fn sign(s: &[u8], at: usize) -> SignAt
+    ensures { λ r. ⌜ Reads (now (s .entry)) at sign (signAt r) × (now (s .exit) ≡ now (s .entry)) ⌝ }
+{
+    match text::byte(s, at, b'-') {
+        Next::No => SignAt {
+            minus: false,
+            at: at,
+        },
+        Next::At(p) => SignAt { minus: true, at: p },
+    }
+}
+
+// A decimal place: absent, the sign, the digits as one number and their count of decimals, or the refusal Number.
+pub enum DecimalAt {
+    Absent(usize),
+    Is(bool, u64, u32, usize),
+    Number,
+}
+
+// A decimal place with its limits. A minus sign may stand before the digits, and not by itself.
 fn decimal(s: &[u8], at: usize, all: u32, before: u32, after: u32) -> DecimalAt
     requires { ⌜ (before ≤ all) × (all ≤ 19) ⌝ }
     ensures { λ r. ⌜ Reads (now (s .entry)) at (decimal (limits all before after)) (decimalAt r) × (now (s .exit) ≡ now (s .entry)) ⌝ }
 {
-    if ends(s, at) {
-        return DecimalAt::Absent(at);
+    let first = sign(s, at);
+    match unsigned(s, first.at, all, before, after) {
+        UnsignedAt::Absent(p) => {
+            if first.minus {
+                return DecimalAt::Number;
+            }
+            DecimalAt::Absent(p)
+        }
+        UnsignedAt::Is(n, k, p) => DecimalAt::Is(first.minus, n, k, p),
+        UnsignedAt::Number => DecimalAt::Number,
     }
-    let Ran::Is(v, m, i) = run(s, at, 0, before) else {
-        return DecimalAt::Number;
-    };
-    if m == 0 {
-        return DecimalAt::Number;
-    }
-    if ends(s, i) {
-        return DecimalAt::Is(v, 0, i);
-    }
-    let Next::At(j) = text::byte(s, i, b'.') else {
-        return DecimalAt::Number;
-    };
-    let most = least(after, all - m);
-    let Ran::Is(w, k, e) = run(s, j, v, most) else {
-        return DecimalAt::Number;
-    };
-    if k == 0 {
-        return DecimalAt::Number;
-    }
-    if ends(s, e) {
-        return DecimalAt::Is(w, k, e);
-    }
-    DecimalAt::Number
 }
 
 // A short decimal: its digits as a whole number, its count of decimals, and the nearest f32.
@@ -150,12 +192,22 @@ pub enum ShortAt {
     Number,
 }
 
-// The f32 nearest to size / 10 ^ k, by one division of exact operands.
-fn nearest_f32(size: u32, k: u32) -> f32
+// The f32 nearest to size / 10 ^ k, by one division of exact operands, and negated where `minus` says so.
+fn nearest_f32(minus: bool, size: u32, k: u32) -> f32
     requires { ⌜ (size < 10000000) × (k ≤ 6) ⌝ }
-    ensures { λ r. ⌜ r ≡ round binary32 false size (10 ^ k) ⌝ }
+    ensures { λ r. ⌜ r ≡ round binary32 minus size (10 ^ k) ⌝ }
 {
-    (size as f32) / (pow10(k) as f32)
+    let quotient = (size as f32) / (pow10(k) as f32);
+    if minus { -quotient } else { quotient }
+}
+
+// `size` as a signed number, negated where `minus` says so.
+fn whole_of(minus: bool, size: u32) -> i32
+    requires { ⌜ size < 10000000 ⌝ }
+    ensures { λ r. ⌜ r ≡ signed size minus ⌝ }
+{
+    let whole = size as i32;
+    if minus { -whole } else { whole }
 }
 
 // A short decimal place: speed, course, variation, DOP.
@@ -164,10 +216,10 @@ pub fn short_decimal(s: &[u8], at: usize) -> ShortAt
 {
     match decimal(s, at, SHORT, SHORT, SHORT) {
         DecimalAt::Absent(p) => ShortAt::Absent(p),
-        DecimalAt::Is(n, k, p) => {
+        DecimalAt::Is(minus, n, k, p) => {
             let size = n as u32;
-            let value = nearest_f32(size, k);
-            let whole = size as i32;
+            let value = nearest_f32(minus, size, k);
+            let whole = whole_of(minus, size);
             ShortAt::Is(
                 ShortDecimal {
                     whole: whole,
@@ -181,8 +233,9 @@ pub fn short_decimal(s: &[u8], at: usize) -> ShortAt
     }
 }
 
-// A long decimal: its digits, its count of decimals, the same in billionths, and the nearest f64.
+// A long decimal: its sign, its digits, their count of decimals, the same in billionths, and the nearest f64.
 pub struct LongDecimal {
+    pub minus: bool,
     pub size: u64,
     pub decimals: u32,
     pub billionths: u64,
@@ -196,12 +249,13 @@ pub enum LongAt {
     Number,
 }
 
-// The f64 nearest to so many billionths, by one division of exact operands.
-fn nearest_f64(billionths: u64) -> f64
+// The f64 nearest to so many billionths, by one division of exact operands, and negated where `minus` says so.
+fn nearest_f64(minus: bool, billionths: u64) -> f64
     requires { ⌜ billionths < 1000000000000 ⌝ }
-    ensures { λ r. ⌜ r ≡ round binary64 false billionths (10 ^ 9) ⌝ }
+    ensures { λ r. ⌜ r ≡ round binary64 minus billionths (10 ^ 9) ⌝ }
 {
-    (billionths as f64) / (BILLION as f64)
+    let value = (billionths as f64) / (BILLION as f64);
+    if minus { -value } else { value }
 }
 
 // A long decimal place: minutes of arc, seconds.
@@ -210,11 +264,12 @@ pub fn long_decimal(s: &[u8], at: usize) -> LongAt
 {
     match decimal(s, at, LONG, LONG_BEFORE, DECIMALS) {
         DecimalAt::Absent(p) => LongAt::Absent(p),
-        DecimalAt::Is(n, k, p) => {
+        DecimalAt::Is(minus, n, k, p) => {
             let billionths = n * pow10(DECIMALS - k);
-            let value = nearest_f64(billionths);
+            let value = nearest_f64(minus, billionths);
             LongAt::Is(
                 LongDecimal {
+                    minus: minus,
                     size: n,
                     decimals: k,
                     billionths: billionths,

@@ -33,7 +33,7 @@ short-at-is (NoShort p) = refl
 short-at-is (AShort d p) = refl
 
 abbrev long-of : Long → LongDecimal
-long-of d = record { size = d .size; decimals = d .decimals; billionths = d .billionths; value = d .value }
+long-of d = record { minus = d .minus; size = d .size; decimals = d .decimals; billionths = d .billionths; value = d .value }
 
 long-at : Placed (Option Long) → LongAt
 long-at unread = NotLong

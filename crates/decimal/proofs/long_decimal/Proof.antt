@@ -9,24 +9,27 @@ use Rattle.decimal.specs.Decimal.{long}
 use Rattle.decimal.specs.Places.{longDecimal}
 use Rattle.decimal.specs.Answer.{decimalAt}
 use Rattle.decimal.proofs.Power.{capped, minutes-lt}
-use Rattle.decimal.proofs.Bounds.{held}
+use Rattle.decimal.proofs.Bounds.{Bounded, held}
 use Rattle.decimal.proofs.Exact.{of-billionths}
 use borrow.Author.Needs.{needs}
 use Rattle.decimal.proofs.long_decimal.Statement.{statement}
 use Rattle.decimal.proofs.long_decimal.Tie as tie
 
+-- behind the decimal: its digits are within the limits
+known : (c : tie.After-known-told2) → let d = c .before .minus .given .0 in Bounded long (record { minus = d .0; size = d .1 .0; decimals = d .1 .1 .0 })
+known c = held long (c .before .before .before .decimal .ensures .0) (c .before .minus .given .1)
+
 sub-pow10 : tie.Need-sub-pow10
-sub-pow10 c = omega (arith, held long (c .before .before .before .decimal .ensures .0) (c .before .n .given .1) .few)
+sub-pow10 c = omega (arith, known c .few)
 
 -- behind the one power of ten: it is that of the decimals which are not written, and the billionths are fewer than 10 ^ 12
-power : (c : tie.After-pow10) → c .pow10 .result ≡ 10 ^ (9 - c .before .before .n .given .0 .1 .0)
+power : (c : tie.After-pow10) → c .pow10 .result ≡ 10 ^ (9 - c .before .before .minus .given .0 .1 .1 .0)
 power c = capped _ (omega arith) (c .pow10 .ensures)
 
-few : (c : tie.After-pow10) → c .before .before .n .given .0 .0 * c .pow10 .result < 1000000000000
+few : (c : tie.After-pow10) → c .before .before .minus .given .0 .1 .0 * c .pow10 .result < 1000000000000
 few c =
-    let h = held long (c .before .before .before .before .decimal .ensures .0) (c .before .before .n .given .1) in
-    let n = c .before .before .n .given .0 .0 in
-    rw (power c) (minutes-lt n _ (h .front) (h .few))
+    let h = known (c .before) in
+    rw (power c) (minutes-lt _ _ (h .front) (h .few))
 
 returns : tie.Need-returns
 unfolding longDecimal
@@ -35,11 +38,9 @@ returns c = (go _ (c .before .before .before .decimal .ensures .0) (ap decimalAt
 returns-2 : tie.Need-returns-2
 unfolding longDecimal
 returns-2 c =
-    let t = c .before .before .before .before .before .decimal .ensures .0 in
-    let e = c .before .before .before .n .given .1 in
-    let n = c .before .before .before .n .given .0 .0 in
-    let k = c .before .before .before .n .given .0 .1 .0 in
-    (rw (c .nearest-f64 .ensures, power (c .before), of-billionths binary64 n k (held long t e .few)) (go _ t (ap decimalAt e) (done _ _ _)), refl)
+    let d = c .before .before .before in
+    let g = d .minus .given .0 in
+    (rw (c .nearest-f64 .ensures, power (c .before), of-billionths binary64 (g .0) (g .1 .0) (g .1 .1 .0) (known (c .before .before) .few)) (go _ (d .before .before .decimal .ensures .0) (ap decimalAt (d .minus .given .1)) (done _ _ _)), refl)
 
 returns-3 : tie.Need-returns-3
 unfolding longDecimal

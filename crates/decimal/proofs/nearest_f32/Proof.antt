@@ -1,21 +1,39 @@
 -- `nearest_f32` meets its contract: both operands are whole numbers that the format holds, so the one division is the one
--- rounding. Assumes nothing.
+-- rounding, and its negation that of the negative number. Assumes nothing.
 use native.Mathlib.Omega.{arith}
-use lib.Ieee.{binary32}
+use Prim.Native.Nat.{_^_}
+use mathlib.Core.Path.{_≡_, ap, _∙_}
+use mathlib.Core.Bool.{false}
+use lib.IntN.{pos}
+use lib.Ieee.{binary32, round, div, neg, ofInt}
 use Rattle.decimal.proofs.Power.{under, capped}
-use Rattle.decimal.proofs.Exact.{in-float, divided}
+use Rattle.decimal.proofs.Exact.{in-float, divided, neg-round}
 use borrow.Author.Needs.{needs}
 use Rattle.decimal.proofs.nearest_f32.Statement.{statement}
 use Rattle.decimal.proofs.nearest_f32.Tie as tie
 
-int-to-float-result : tie.Need-int-to-float-result
-int-to-float-result c = in-float binary32 (c .before .args .size) (omega arith)
+int-to-float-quotient : tie.Need-int-to-float-quotient
+int-to-float-quotient c = in-float binary32 (c .before .args .size) (omega arith)
 
-int-to-float-result-2 : tie.Need-int-to-float-result-2
-int-to-float-result-2 c = let k = c .before .before .before .args .k in in-float binary32 (c .before .pow10 .result) (omega (arith, capped k (omega arith) (c .before .pow10 .ensures), under k 6 (omega arith)))
+int-to-float-quotient-2 : tie.Need-int-to-float-quotient-2
+int-to-float-quotient-2 c =
+    let k = c .before .before .before .args .k in
+    in-float binary32 (c .before .pow10 .result) (omega (arith, capped k (omega arith) (c .before .pow10 .ensures), under k 6 (omega arith)))
+
+-- the quotient
+quotient : (c : tie.After-row-known2) → let a = c .before .before .before .args in
+    div binary32 (ofInt binary32 (pos (a .size))) (ofInt binary32 (pos (c .before .pow10 .result))) ≡ round binary32 false (a .size) (10 ^ a .k)
+quotient c =
+    let a = c .before .before .before .args in
+    divided binary32 (a .size) (a .k) (omega arith) (omega arith) (omega (arith, under (a .k) 6 (omega arith))) (c .before .pow10 .ensures)
 
 returns : tie.Need-returns
-returns c = let k = c .before .before .before .args .k in divided binary32 (c .before .before .before .args .size) k (omega arith) (omega arith) (omega (arith, under k 6 (omega arith))) (c .before .pow10 .ensures)
+returns c =
+    let a = c .before .before .before .before .args in
+    rw (c .if1 .taken) (ap neg (quotient (c .before)) ∙ neg-round binary32 (a .size) (10 ^ a .k))
+
+returns-2 : tie.Need-returns-2
+returns-2 c = rw (c .if1 .left) (quotient (c .before))
 
 pub nearest-f32-spec : {M : Type 1} → statement M
-nearest-f32-spec = tie.close (tie.spec int-to-float-result (λ c κs. search needs) int-to-float-result-2 returns)
+nearest-f32-spec = tie.close (tie.spec int-to-float-quotient (λ c κs. search needs) int-to-float-quotient-2 returns returns-2)

@@ -1,19 +1,27 @@
 -- `nearest_f64` meets its contract: both operands are whole numbers that the format holds, so the one division is the one
--- rounding. Assumes nothing.
+-- rounding, and its negation that of the negative number. Assumes nothing.
 use native.Mathlib.Omega.{arith}
-use lib.Ieee.{binary64}
-use Rattle.decimal.proofs.Exact.{in-float, div-whole}
+use Prim.Native.Nat.{_^_}
+use mathlib.Core.Path.{ap, _∙_}
+use lib.Ieee.{binary64, neg}
+use Rattle.decimal.proofs.Exact.{in-float, div-whole, neg-round}
 use Rattle.decimal.proofs.nearest_f64.Statement.{statement}
 use Rattle.decimal.proofs.nearest_f64.Tie as tie
 
-int-to-float-result : tie.Need-int-to-float-result
-int-to-float-result c = in-float binary64 (c .before .args .billionths) (omega arith)
+int-to-float-value : tie.Need-int-to-float-value
+int-to-float-value c = in-float binary64 (c .before .args .billionths) (omega arith)
 
-int-to-float-result-2 : tie.Need-int-to-float-result-2
-int-to-float-result-2 c = in-float binary64 _ (omega arith)
+int-to-float-value-2 : tie.Need-int-to-float-value-2
+int-to-float-value-2 c = in-float binary64 _ (omega arith)
 
 returns : tie.Need-returns
-returns c = div-whole binary64 (c .before .args .billionths) 1000000000 (omega arith) (omega arith) (omega arith)
+returns c =
+    let n = c .before .before .args .billionths in
+    rw (c .if1 .taken) (ap neg (div-whole binary64 n 1000000000 (omega arith) (omega arith) (omega arith)) ∙ neg-round binary64 n (10 ^ 9))
+
+returns-2 : tie.Need-returns-2
+returns-2 c =
+    rw (c .if1 .left) (div-whole binary64 (c .before .before .args .billionths) 1000000000 (omega arith) (omega arith) (omega arith))
 
 pub nearest-f64-spec : {M : Type 1} → statement M
-nearest-f64-spec = tie.close (tie.spec int-to-float-result int-to-float-result-2 returns)
+nearest-f64-spec = tie.close (tie.spec int-to-float-value int-to-float-value-2 returns returns-2)

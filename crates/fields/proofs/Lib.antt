@@ -2,6 +2,5 @@ pub mod Clock
 pub mod Calendar
 pub mod Gregorian
 pub mod Never
-pub mod Sign
 pub mod Steps
 pub mod Number

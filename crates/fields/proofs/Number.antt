@@ -11,7 +11,7 @@ use mathlib.Core.Option.{Option, none, some}
 use lib.Dec.{leb}
 use lib.ListN.{length}
 use Rattle.text.specs.Bytes.{byte}
-use Rattle.text.specs.Reader.{Fault, miss, got, _>>=_, _>>_, char, orMiss}
+use Rattle.text.specs.Reader.{Fault, Parse, miss, got, after, _>>=_, _>>_, char, orMiss}
 use Rattle.text.specs.Number.{fixed, twoBytes, threeBytes}
 use Rattle.text.proofs.Binds.{bind-miss, char-other, unbind, pure-is}
 use Rattle.text.proofs.Faults.{Clear, Never, clear-miss, never-bind, never-pure, never-opt, never-orMiss, never-char, never-oneOf, never-fixed}
@@ -19,7 +19,7 @@ use Rattle.decimal.specs.Decimal.{text, short, long}
 use Rattle.decimal.specs.Places.{Long, longDecimal}
 use Rattle.decimal.proofs.Facts.{long-facts}
 use Rattle.decimal.proofs.Number.{Place, place, here, OneBad, NumberAt, never, both, first-at, first, optional, apart, short-number, long-number}
-use Rattle.fields.specs.Time.{clock, hms, optHms}
+use Rattle.fields.specs.Time.{noSign, clock, hms, optHms}
 use Rattle.fields.specs.Date.{fullYear, dateOf, date, optDate}
 use Rattle.fields.specs.Position.{side, latitude, longitude, doLatLon, commas, latLon}
 use Rattle.fields.specs.Variation.{doVariation, variation}
@@ -31,10 +31,14 @@ timePlaces = place long (twoBytes >> (twoBytes >> here)) ∷ []
 
 -- seconds that were read end in no fault
 clear-seconds : {f : Fault} (h m : ℕ) (l : List ℕ) (s : Option Long) (n : List ℕ) → longDecimal l ≡ got s n
-    → Clear f ((orMiss s >>= (λ d. clock h m (d .size) (d .decimals))) n)
-unfolding _>>=_ orMiss
+    → Clear f ((orMiss s >>= (λ d. noSign (d .minus) >> clock h m (d .size) (d .decimals))) n)
+unfolding _>>=_ orMiss noSign
 clear-seconds h m l none n e = clear-miss
-clear-seconds h m l (some d) n e = clear-clock h m (d .size) (d .decimals) n (long-facts l e .few)
+clear-seconds {f} h m l (some d) n e = by (d .minus)
+  where
+    by : (t : Bool) → Clear f (after (cond {A = Parse (Unit {0})} t miss (got tt n)) (λ _. clock h m (d .size) (d .decimals)))
+    by true = clear-miss
+    by false = clear-clock h m (d .size) (d .decimals) n (long-facts l e .few)
 
 never-two : {f : Fault} → Never f twoBytes
 never-two = never-fixed 2 255

@@ -1,17 +1,18 @@
 -- The laws of reading at each answer of the fields, for `search`. Assumes nothing.
 use Prim.Native.Nat.{ℕ}
 use mathlib.Core.Path.{_≡_, ap, sym, _∙_}
+use mathlib.Core.Bool.{Bool, true, false}
 use mathlib.Core.List.{List}
 use mathlib.Core.Option.{Option}
 use Rattle.text.specs.Reader.{Reader, _>>=_, orMiss, Number, BadTime}
 use Rattle.text.specs.Placed.{Placed, unread, refused, upto, Reads}
-use Rattle.text.proofs.Places.{stop, fail, go, done, miss-none, miss-some}
+use Rattle.text.proofs.Places.{no-read, alike, stop, fail, go, done, miss-none, miss-some}
 use Rattle.text.proofs.Steps.{stop-whole, go-whole, stop-next, go-next, stop-letter, go-letter, stop-miss, go-some}
 use Rattle.decimal.specs.Places.{Short}
 use Rattle.decimal.specs.Answer.{aShort}
 use Rattle.decimal.specs.declared.ShortDecimal.{ShortDecimal}
 use Rattle.decimal.proofs.Steps.{fail-short, go-no-short, go-short, fail-long, go-no-long, go-long}
-use Rattle.fields.specs.Time.{Time}
+use Rattle.fields.specs.Time.{Time, noSign}
 use Rattle.fields.specs.Date.{Date}
 use Rattle.fields.specs.Position.{Position, LatLon}
 use Rattle.fields.specs.Answer.{timeHeld, timeAt, calendared, dayOf, dateHeld, dateAt, coordinate, sideAt, both, bothAt, positionHeld, positionAt, magneticAt, shortHeld, shortPlaceAt}
@@ -46,6 +47,15 @@ pub a-day : {s : List ℕ} {p : ℕ} {o : Option Date} {r : Calendar} {d : Day} 
 a-day e f = miss-some (sym f ∙ ap calendared e)
 
 module _ {B : Type 0} {s : List ℕ} {at : ℕ} where
+  -- seconds have no sign
+  pub stop-signed : (k : Unit {0} → Reader B) {minus : Bool} → minus ≡ true → Reads s at (noSign minus >>= k) unread
+  unfolding _>>=_ noSign
+  stop-signed k e = no-read (rw e)
+
+  pub go-unsigned : (k : Unit {0} → Reader B) {minus : Bool} {b : Placed B} → minus ≡ false → Reads s at (k tt) b → Reads s at (noSign minus >>= k) b
+  unfolding _>>=_ noSign
+  go-unsigned k e t = alike t (rw e)
+
   pub stop-side : {q : Reader Position} (k : Position → Reader B) {r : SideAt} → r ≡ NoSide → Reads s at q (sideAt r) → Reads s at (q >>= k) unread
   stop-side k e t = stop k t (ap sideAt e)
 
@@ -109,7 +119,7 @@ module _ {B : Type 0} {s : List ℕ} {at : ℕ} where
   pub fail-held : {q : Reader (Option Short)} (k : Option Short → Reader B) {r : ShortPlace} → r ≡ ShortNumber → Reads s at q (shortPlaceAt r) → Reads s at (q >>= k) (refused Number)
   fail-held k e t = fail k t (ap shortPlaceAt e)
 
-pub ruleset steps = (stop-whole, go-whole, stop-next, go-next, stop-letter, go-letter, stop-miss, go-some, fail-long, go-no-long, go-long, fail-short, go-no-short, go-short, no-day, a-day, stop-side, fail-side, go-side, stop-both, fail-both, go-both, stop-magnetic, fail-magnetic, go-magnetic, done)
+pub ruleset steps = (stop-whole, go-whole, stop-next, go-next, stop-letter, go-letter, stop-miss, go-some, fail-long, go-no-long, go-long, stop-signed, go-unsigned, fail-short, go-no-short, go-short, no-day, a-day, stop-side, fail-side, go-side, stop-both, fail-both, go-both, stop-magnetic, fail-magnetic, go-magnetic, done)
 
 -- a field that may be absent, and its comma
 pub ruleset commas = (stop-next, go-next, fail-short, go-no-short, go-short, stop-time, go-time, fail-time, late-time, stop-date, go-date, stop-position, go-position, fail-position, done)

@@ -1,14 +1,14 @@
 -- Latitude and longitude: degrees, minutes of arc, and the letter of the hemisphere.
-use Prim.Native.Nat.{ℕ, _+_, _*_}
+use Prim.Native.Nat.{ℕ, _*_}
 use mathlib.Core.Bool.{Bool, cond}
 use mathlib.Core.Option.{Option, none, some}
-use lib.IntN.{ℤ, pos}
+use lib.IntN.{ℤ, pos, _+ℤ_}
 use lib.Dec.{eqb}
 use lib.Ieee.{Float, binary64, add, div, neg, ofInt}
 use Rattle.text.specs.Bytes.{byte}
 use Rattle.text.specs.Reader.{Reader, _>>=_, _>>_, pure, char, oneOf, alt, orMiss}
 use Rattle.text.specs.Number.{twoBytes, threeBytes}
-use Rattle.decimal.specs.Places.{Long, longDecimal, signed}
+use Rattle.decimal.specs.Places.{Long, longDecimal, turned, signed}
 
 -- a signed count of billionths of a minute, its letter, and the f64 in degrees
 pub record Position : Type 0 where
@@ -16,9 +16,9 @@ pub record Position : Type 0 where
   pub letter : ℕ
   pub degrees : Float
 
--- 60 minutes a degree, each of 1,000,000,000 billionths
-abbrev pub billionthsOf : ℕ → Long → ℕ
-billionthsOf deg m = deg * 60000000000 + m .billionths
+-- 60 minutes a degree, each of 1,000,000,000 billionths: minutes below zero count against the degrees
+abbrev pub billionthsOf : ℕ → Long → ℤ
+billionthsOf deg m = pos (deg * 60000000000) +ℤ signed (m .billionths) (m .minus)
 
 -- as in do_parse_lat_lon: minutes divided by 60, added to the degrees, negated for S or W
 abbrev pub degreesOf : ℕ → Float → Bool → Float
@@ -27,7 +27,7 @@ degreesOf deg m minus =
 
 abbrev pub positionOf : ℕ → Long → ℕ → Bool → Position
 positionOf deg m letter minus =
-    record { count = signed (billionthsOf deg m) minus; letter = letter; degrees = degreesOf deg (m .value) minus }
+    record { count = turned (billionthsOf deg m) minus; letter = letter; degrees = degreesOf deg (m .value) minus }
 
 -- minutes, a comma and one of two letters, of which the second negates
 unfoldable pub side : ℕ → ℕ → ℕ → Reader Position

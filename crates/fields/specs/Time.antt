@@ -1,10 +1,10 @@
--- The time of day: hour, minute and seconds. 01: "Number before ranges; hour below 24, minute below 60, seconds below 60,
--- else Syntax. Then 11."
+-- The time of day: hour, minute and seconds. 01: "Number before ranges; seconds with a sign, minus zero too, are Syntax; hour
+-- below 24, minute below 60, seconds below 60, else Syntax. Then 11."
 use Prim.Native.Nat.{ℕ, _*_, _-_, _/_, _%_, _^_}
-use mathlib.Core.Bool.{cond, _&&_}
+use mathlib.Core.Bool.{Bool, cond, _&&_}
 use mathlib.Core.Option.{Option}
 use lib.Dec.{ltb}
-use Rattle.text.specs.Reader.{miss, refuse, got, Reader, opt, orMiss, BadTime, _>>=_}
+use Rattle.text.specs.Reader.{miss, refuse, got, Reader, opt, orMiss, BadTime, _>>=_, _>>_}
 use Rattle.text.specs.Number.{twoBytes}
 use Rattle.decimal.specs.Places.{longDecimal}
 
@@ -20,6 +20,10 @@ secondOf size k = size / 10 ^ k
 
 abbrev pub nanosecondOf : ℕ → ℕ → ℕ
 nanosecondOf size k = size % 10 ^ k * 10 ^ (9 - k)
+
+-- seconds without a sign: minus zero has one too
+unfoldable pub noSign : Bool → Reader (Unit {0})
+noSign minus l = cond minus miss (got tt l)
 
 -- a time within its ranges, unless its nanoseconds are not below 1,000,000,000
 unfoldable pub timed : Time → Reader Time
@@ -39,6 +43,7 @@ hms = do
   minute ← twoBytes
   seconds ← longDecimal
   d ← orMiss seconds
+  noSign (d .minus)
   clock hour minute (d .size) (d .decimals)
 
 -- opt(parse_hms): the comma that must follow it refuses what is neither empty nor a time

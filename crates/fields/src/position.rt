@@ -1,11 +1,12 @@
 // Latitude and longitude.
 ghost use mathlib.Core.Path.{_≡_};
 ghost use Prim.Native.Nat.{_<_};
+ghost use lib.IntN.{natAbs};
 ghost use Rattle.text.specs.Placed.{Reads};
 ghost use Rattle.text.specs.Answer.{next};
-ghost use Rattle.decimal.specs.Places.{signed};
+ghost use Rattle.decimal.specs.Places.{turned};
 ghost use Rattle.decimal.specs.Answer.{aLong};
-ghost use Rattle.fields.specs.Position.{degreesOf, positionOf, side, latitude, longitude, doLatLon, commas, latLon};
+ghost use Rattle.fields.specs.Position.{billionthsOf, degreesOf, positionOf, side, latitude, longitude, doLatLon, commas, latLon};
 ghost use Rattle.fields.specs.Answer.{coordinate, sideAt, bothAt, positionAt};
 use decimal::LongAt;
 use decimal::LongDecimal;
@@ -20,13 +21,22 @@ pub struct Coordinate {
     pub degrees: f64,
 }
 
-// `n` as a signed number, negated where `minus` says so.
-fn signed_of(n: u64, minus: bool) -> i64
-    requires { ⌜ n < 100000000000000 ⌝ }
-    ensures { λ r. ⌜ r ≡ signed n minus ⌝ }
+// `z`, negated where `minus` says so.
+fn turned(z: i64, minus: bool) -> i64
+    requires { ⌜ natAbs z < 100000000000000 ⌝ }
+    ensures { λ r. ⌜ r ≡ turned z minus ⌝ }
 {
-    let m = n as i64;
-    if minus { -m } else { m }
+    if minus { -z } else { z }
+}
+
+// Degrees and minutes in billionths of a minute, which minutes below zero count against.
+fn billionths_of(deg: u8, m: LongDecimal) -> i64
+    requires { ⌜ m .billionths < 1000000000000 ⌝ }
+    ensures { λ r. ⌜ r ≡ billionthsOf deg (aLong m) ⌝ }
+{
+    let degrees = (deg as u64) * 60000000000;
+    let minutes = turned(m.billionths as i64, m.minus);
+    (degrees as i64) + minutes
 }
 
 // Degrees and minutes in degrees: each operation rounds, as in the Rust.
@@ -42,7 +52,7 @@ fn located(deg: u8, m: LongDecimal, letter: u8, minus: bool) -> Coordinate
     requires { ⌜ m .billionths < 1000000000000 ⌝ }
     ensures { λ r. ⌜ coordinate r ≡ positionOf deg (aLong m) letter minus ⌝ }
 {
-    let count = signed_of((deg as u64) * 60000000000 + m.billionths, minus);
+    let count = turned(billionths_of(deg, m), minus);
     let degrees = degrees_of(deg, m.value, minus);
     Coordinate {
         count: count,

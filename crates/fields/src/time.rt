@@ -66,7 +66,12 @@ pub fn parse_hms(s: &[u8], at: usize) -> TimeRead
     };
     match decimal::long_decimal(s, at) {
         LongAt::Absent(_) => TimeRead::No,
-        LongAt::Is(d, at) => on_clock(s, at, hour, minute, d),
+        LongAt::Is(d, at) => {
+            if d.minus {
+                return TimeRead::No;
+            }
+            on_clock(s, at, hour, minute, d)
+        }
         LongAt::Number => TimeRead::Number,
     }
 }

@@ -7,6 +7,7 @@ use crate::print::REFUSED;
 use crate::print::bits;
 use crate::print::end;
 use crate::print::number;
+use crate::print::sign;
 use crate::print::signed;
 use crate::print::small;
 use decimal::LongAt;
@@ -59,6 +60,7 @@ fn long(text: &[u8], at: usize) {
     match decimal::long_decimal(text, at) {
         LongAt::Absent(p) => end(ABSENT, p),
         LongAt::Is(d, p) => {
+            sign(d.minus);
             number(d.size);
             small(d.decimals);
             number(d.billionths);

@@ -31,6 +31,13 @@ pub(crate) fn bits(n: u64, width: usize) {
     say(b" ");
 }
 
+// The sign of a number whose size follows.
+pub(crate) fn sign(minus: bool) {
+    if minus {
+        say(b"-");
+    }
+}
+
 // Below zero, -1 - z is one less than the number's size, and fits.
 pub(crate) fn signed(z: i64) {
     if z < 0 {

@@ -11,7 +11,7 @@ use Rattle.text.specs.Number.{fixed}
 use Rattle.text.specs.Value.{value, syntax, fault, is}
 use Rattle.decimal.specs.Decimal.{decimal}
 use Rattle.decimal.specs.Places.{shortDecimal, longDecimal}
-use Rattle.fields.specs.Time.{hms, clock, timed}
+use Rattle.fields.specs.Time.{hms, noSign, clock, timed}
 use Rattle.fields.specs.Date.{date}
 use Rattle.fields.specs.Position.{side, latitude, longitude, doLatLon, commas, latLon}
 use Rattle.fields.specs.Variation.{doVariation, variation}
@@ -33,7 +33,7 @@ pub variation-west :
         letters = record { mode = none; status = none };
       };
     })
-unfolding rmc fixPart motion letters ending withComma ifComma optLetter hms clock timed date side latitude longitude doLatLon commas latLon doVariation variation shortDecimal longDecimal decimal fixed _>>=_ pure opt alt orMiss char oneOf among letterOf round ofBits ofFields odd units size span climb trailingZeros neg
+unfolding rmc fixPart motion letters ending withComma ifComma optLetter hms noSign clock timed date side latitude longitude doLatLon commas latLon doVariation variation shortDecimal longDecimal decimal fixed _>>=_ pure opt alt orMiss char oneOf among letterOf round ofBits ofFields odd units size span climb trailingZeros neg
 variation-west = refl
 
 -- `,E,A`: the comma is eaten as an absent variation, and E is no comma, so that neither mode nor status is read
@@ -45,7 +45,7 @@ pub lone-letter :
       motion = nothing;
       ending = record { variation = none; letters = record { mode = none; status = none } };
     })
-unfolding rmc fixPart motion letters ending withComma ifComma optLetter hms clock timed date side latitude longitude doLatLon commas latLon doVariation variation shortDecimal longDecimal decimal fixed _>>=_ pure opt alt orMiss char oneOf among letterOf
+unfolding rmc fixPart motion letters ending withComma ifComma optLetter hms noSign clock timed date side latitude longitude doLatLon commas latLon doVariation variation shortDecimal longDecimal decimal fixed _>>=_ pure opt alt orMiss char oneOf among letterOf
 lone-letter = refl
 
 -- an unknown mode letter is not eaten, so that no comma follows for the status
@@ -57,15 +57,15 @@ pub unknown-mode :
       motion = nothing;
       ending = record { variation = none; letters = record { mode = none; status = none } };
     })
-unfolding rmc fixPart motion letters ending withComma ifComma optLetter hms clock timed date side latitude longitude doLatLon commas latLon doVariation variation shortDecimal longDecimal decimal fixed _>>=_ pure opt alt orMiss char oneOf among letterOf
+unfolding rmc fixPart motion letters ending withComma ifComma optLetter hms noSign clock timed date side latitude longitude doLatLon commas latLon doVariation variation shortDecimal longDecimal decimal fixed _>>=_ pure opt alt orMiss char oneOf among letterOf
 unknown-mode = refl
 
 -- Number at the speed, before the date that is none
 pub number-first : value (rmc (bytes ",A,,,,,x,,999999,,,")) ≡ fault Number
-unfolding rmc fixPart motion letters ending withComma ifComma optLetter hms clock timed date side latitude longitude doLatLon commas latLon doVariation variation shortDecimal longDecimal decimal fixed _>>=_ pure opt alt orMiss char oneOf among letterOf
+unfolding rmc fixPart motion letters ending withComma ifComma optLetter hms noSign clock timed date side latitude longitude doLatLon commas latLon doVariation variation shortDecimal longDecimal decimal fixed _>>=_ pure opt alt orMiss char oneOf among letterOf
 number-first = refl
 
 -- Syntax at the status, before the speed that is no decimal
 pub syntax-first : value (rmc (bytes ",B,,,,,x,,,,,")) ≡ syntax
-unfolding rmc fixPart motion letters ending withComma ifComma optLetter hms clock timed date side latitude longitude doLatLon commas latLon doVariation variation shortDecimal longDecimal decimal fixed _>>=_ pure opt alt orMiss char oneOf among letterOf
+unfolding rmc fixPart motion letters ending withComma ifComma optLetter hms noSign clock timed date side latitude longitude doLatLon commas latLon doVariation variation shortDecimal longDecimal decimal fixed _>>=_ pure opt alt orMiss char oneOf among letterOf
 syntax-first = refl

@@ -1,19 +1,30 @@
--- `signed_of` meets its contract: the number fits with either sign. Assumes nothing.
+-- `turned` meets its contract: the number is no extreme, so its negation fits. Assumes nothing.
 use native.Mathlib.Omega.{arith}
-use lib.IntN.{pos}
-use Rattle.fields.proofs.Sign.{size64, fits64, back64}
+use mathlib.Core.Path.{_≡_}
+use mir.Syntax.{w64}
+use mir.Val.{toZ, ofZ}
+use Rattle.decimal.proofs.Negation.{fits64, back64}
 use borrow.Author.Needs.{needs}
-use Rattle.fields.proofs.position.signed_of.Statement.{statement}
-use Rattle.fields.proofs.position.signed_of.Tie as tie
+use Rattle.fields.proofs.position.turned.Statement.{statement}
+use Rattle.fields.proofs.position.turned.Tie as tie
 
 sub-result : tie.Need-sub-result
-sub-result c = rw (size64 (c .before .args .n) (omega arith)) (fits64 (pos (c .before .args .n)) (omega arith))
+sub-result c =
+    let z = c .before .args .z in
+    let e : toZ w64 (ofZ w64 z) ≡ z = search needs in
+    rw e (fits64 z (omega arith))
 
 returns : tie.Need-returns
-returns c = rw (c .if1 .taken, size64 (c .before .args .n) (omega arith)) (back64 (pos (c .before .args .n)) (omega arith))
+returns c =
+    let z = c .before .args .z in
+    let e : toZ w64 (ofZ w64 z) ≡ z = search needs in
+    rw (e, c .if1 .taken, back64 z (omega arith))
 
 returns-2 : tie.Need-returns-2
-returns-2 c = rw (c .if1 .left) (size64 (c .before .args .n) (omega arith))
+returns-2 c =
+    let z = c .before .args .z in
+    let e : toZ w64 (ofZ w64 z) ≡ z = search needs in
+    rw (e, c .if1 .left)
 
-pub signed-of-spec : {M : Type 1} → statement M
-signed-of-spec = tie.close (tie.spec (λ c. search needs) sub-result returns returns-2)
+pub turned-spec : {M : Type 1} → statement M
+turned-spec = tie.close (tie.spec sub-result returns returns-2)

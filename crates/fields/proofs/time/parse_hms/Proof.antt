@@ -8,12 +8,12 @@ use Rattle.fields.proofs.time.parse_hms.Statement.{statement}
 use Rattle.fields.proofs.time.parse_hms.Tie as tie
 
 on-clock-requires : tie.Need-on-clock-requires
-on-clock-requires c κs = let f = long-held (c .before .before .before .long-decimal .ensures .0) (c .before .d .given .1) in (f .few, f .scaled)
+on-clock-requires c κs = let f = long-held (c .before .before .before .before .long-decimal .ensures .0) (c .before .before .d .given .1) in (f .few, f .scaled)
 
 pub parse-hms-spec : {M : Type 1} → statement M
 unfolding hms
 parse-hms-spec = tie.close (tie.spec
     (λ c κs. search needs) (λ c. search needs) (λ c. search needs) (λ c. (search steps depth 14, refl)) (λ c κs. search needs)
     (λ c. search needs) (λ c. search needs) (λ c. (search steps depth 14, refl)) (λ c κs. search needs) (λ c. search needs)
-    (λ c. search needs) on-clock-requires (λ c. search needs) (λ c. (search steps depth 14, refl)) (λ c. (search steps depth 14, refl))
-    (λ c. (search steps depth 14, refl)))
+    (λ c. search needs) (λ c. (search steps depth 14, refl)) on-clock-requires (λ c. search needs) (λ c. (search steps depth 14, refl))
+    (λ c. (search steps depth 14, refl)) (λ c. (search steps depth 14, refl)))

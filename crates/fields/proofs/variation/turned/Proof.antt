@@ -4,7 +4,7 @@ use mathlib.Core.Path.{_≡_}
 use borrow.Author.Needs.{needs}
 use mir.Syntax.{w32}
 use mir.Val.{toZ, ofZ}
-use Rattle.fields.proofs.Sign.{fits32, back32}
+use Rattle.decimal.proofs.Negation.{fits32, back32}
 use Rattle.fields.proofs.variation.turned.Statement.{statement}
 use Rattle.fields.proofs.variation.turned.Tie as tie
 

@@ -3,3 +3,4 @@ pub mod OneByte
 pub mod Numbered
 pub mod Number
 pub mod Nines
+pub mod Signed

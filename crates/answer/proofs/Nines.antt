@@ -14,7 +14,7 @@ use Rattle.decimal.specs.Decimal.{short, decimal}
 use Rattle.decimal.specs.Places.{shortDecimal, longDecimal}
 use Rattle.decimal.proofs.Exactly.{number-only}
 use Rattle.decimal.proofs.Number.{here}
-use Rattle.fields.specs.Time.{hms, clock, timed}
+use Rattle.fields.specs.Time.{hms, noSign, clock, timed}
 use Rattle.fields.specs.Date.{date}
 use Rattle.fields.specs.Position.{side, latitude, longitude, doLatLon, commas, latLon}
 use Rattle.fields.specs.Variation.{doVariation, variation}
@@ -60,7 +60,7 @@ rows =
     ∷ []
 
 pub worked : Holds rows
-unfolding answer dispatch formatterOf frame sized sentence sentenceType checksumField taken known hex digit checksumFrom types alike listed follow step after ascii until char oneOf among letterOf _>>=_ pure opt alt orMiss number numberFrom fixed decimal shortDecimal longDecimal hms clock timed date side latitude longitude doLatLon commas latLon doVariation variation rowOf gsv entry counted cell closing many skip takeWhile1 eof allConsuming oneOf3 gsa emptyTail lastSystem fullTail prnFields item dop dops systemAfterComma optSystem rmc fixPart motion letters ending withComma ifComma optLetter
+unfolding answer dispatch formatterOf frame sized sentence sentenceType checksumField taken known hex digit checksumFrom types alike listed follow step after ascii until char oneOf among letterOf _>>=_ pure opt alt orMiss number numberFrom fixed decimal shortDecimal longDecimal hms noSign clock timed date side latitude longitude doLatLon commas latLon doVariation variation rowOf gsv entry counted cell closing many skip takeWhile1 eof allConsuming oneOf3 gsa emptyTail lastSystem fullTail prnFields item dop dops systemAfterComma optSystem rmc fixPart motion letters ending withComma ifComma optLetter
 worked = (refl, (refl, (refl, (refl, (refl, (refl, (refl, (refl, (refl, (refl, (refl, tt)))))))))))
 
 -- the first row's bad place is the fourth of RMC, its speed

@@ -13,7 +13,7 @@ use Rattle.text.specs.Reader.{_>>=_, pure, opt, alt, orMiss, char, oneOf, among
 use Rattle.text.specs.Number.{number, numberFrom, fixed}
 use Rattle.decimal.specs.Decimal.{decimal}
 use Rattle.decimal.specs.Places.{Short, shortDecimal, longDecimal}
-use Rattle.fields.specs.Time.{hms, clock, timed}
+use Rattle.fields.specs.Time.{hms, noSign, clock, timed}
 use Rattle.fields.specs.Date.{date}
 use Rattle.fields.specs.Position.{side, latitude, longitude, doLatLon, commas, latLon}
 use Rattle.fields.specs.Variation.{doVariation, variation}
@@ -130,5 +130,5 @@ rows = (
     ∷ []
 
 pub worked : Holds rows
-unfolding answer dispatch formatterOf frame sized sentence sentenceType checksumField taken known hex digit checksumFrom types alike listed follow step after ascii until char oneOf among letterOf _>>=_ pure opt alt orMiss number numberFrom fixed decimal shortDecimal longDecimal hms clock timed date side latitude longitude doLatLon commas latLon doVariation variation rowOf gsv entry counted cell closing many skip takeWhile1 eof allConsuming oneOf3 gsa emptyTail lastSystem fullTail prnFields item dop dops systemAfterComma optSystem rmc fixPart motion letters ending withComma ifComma optLetter round ofBits ofFields odd units size span climb trailingZeros add sum div neg ofInt
+unfolding answer dispatch formatterOf frame sized sentence sentenceType checksumField taken known hex digit checksumFrom types alike listed follow step after ascii until char oneOf among letterOf _>>=_ pure opt alt orMiss number numberFrom fixed decimal shortDecimal longDecimal hms noSign clock timed date side latitude longitude doLatLon commas latLon doVariation variation rowOf gsv entry counted cell closing many skip takeWhile1 eof allConsuming oneOf3 gsa emptyTail lastSystem fullTail prnFields item dop dops systemAfterComma optSystem rmc fixPart motion letters ending withComma ifComma optLetter round ofBits ofFields odd units size span climb trailingZeros add sum div neg ofInt
 worked = (refl, (refl, (refl, (refl, (refl, (refl, (refl, (refl, (refl, (refl, (refl, (refl, tt))))))))))))

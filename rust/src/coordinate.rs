@@ -1,4 +1,7 @@
-use std::fmt;
+use std::{
+    fmt,
+    hash::{Hash, Hasher},
+};
 
 use crate::{
     places::{
@@ -9,33 +12,39 @@ use crate::{
 };
 
 letters! {
-    /// The half of the earth that a coordinate lies in.
+    /// The half of the earth that a coordinate's letter names.
     Hemisphere {
-        /// Latitudes from the equator up.
+        /// Latitudes, counted from the equator up.
         North = b'N',
-        /// Latitudes from the equator down, which are negative.
+        /// Latitudes, counted from the equator down: what the digits say is negated.
         South = b'S',
-        /// Longitudes east of Greenwich.
+        /// Longitudes, counted from Greenwich to the east.
         East = b'E',
-        /// Longitudes west of Greenwich, which are negative.
+        /// Longitudes, counted from Greenwich to the west: what the digits say is negated.
         West = b'W',
     }
 }
 
-/// A latitude or a longitude: exactly, and as a float. The sentence sets no
-/// range beyond its digits: a latitude of 99 degrees is read.
-#[derive(Clone, Copy, Debug, PartialEq)]
+/// A latitude or a longitude: exactly, and as a float. Two are equal if they
+/// have the same bits.
+///
+/// The sentence sets no range beyond its digits: a latitude of 99 degrees is
+/// read. Minutes below zero count against the degrees, so that the place may
+/// lie in the other half of the earth than the letter names: `00-30,N` is half
+/// a degree to the south.
+#[derive(Clone, Copy, Debug)]
 pub struct Coordinate {
-    /// Billionths of a minute of arc, degrees included; below zero to the south and west.
+    /// Billionths of a minute of arc, degrees included; below zero where the
+    /// place lies to the south or west, whatever its letter.
     pub billionths: i64,
     /// The letter of the sentence.
     pub hemisphere: Hemisphere,
-    /// Degrees; below zero, or minus zero, to the south and west.
+    /// Degrees, with the sign of the count; zero is minus zero under S and W.
     pub degrees: f64,
 }
 
 /// A place on the earth.
-#[derive(Clone, Copy, Debug, PartialEq)]
+#[derive(Clone, Copy, Debug, PartialEq, Eq, Hash)]
 pub struct Position {
     /// North or south of the equator.
     pub latitude: Coordinate,
@@ -52,6 +61,24 @@ impl Coordinate {
             hemisphere: Hemisphere::of(words, at + COORDINATE_LETTER)?,
             degrees: f64::from_bits(words.word(at + COORDINATE_DEGREES)?),
         })
+    }
+
+    fn bits(&self) -> (i64, Hemisphere, u64) {
+        (self.billionths, self.hemisphere, self.degrees.to_bits())
+    }
+}
+
+impl PartialEq for Coordinate {
+    fn eq(&self, other: &Self) -> bool {
+        self.bits() == other.bits()
+    }
+}
+
+impl Eq for Coordinate {}
+
+impl Hash for Coordinate {
+    fn hash<H: Hasher>(&self, state: &mut H) {
+        self.bits().hash(state);
     }
 }
 

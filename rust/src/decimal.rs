@@ -1,4 +1,7 @@
-use std::fmt;
+use std::{
+    fmt,
+    hash::{Hash, Hasher},
+};
 
 use crate::{
     places::{
@@ -8,15 +11,16 @@ use crate::{
     words::{Unfit, Words},
 };
 
-/// A decimal of at most 7 digits: exactly, and as the nearest float.
-#[derive(Clone, Copy, Debug, PartialEq)]
+/// A decimal of at most 7 digits: exactly, and as the nearest float. Two are
+/// equal if they have the same bits, so that `-0` is not `0`.
+#[derive(Clone, Copy, Debug)]
 pub struct Decimal {
-    /// Its digits as a whole number: 45 for `4.5`.
+    /// Its digits as a whole number, with its sign: -45 for `-4.5`.
     pub whole: i32,
-    /// How many of the digits stand after the point: 1 for `4.5`.
+    /// How many of the digits stand after the point: 1 for `-4.5`.
     pub decimals: u8,
-    /// The whole number divided once by the power of ten. A variation of zero
-    /// to the west is minus zero, which only this tells.
+    /// The whole number divided once by the power of ten. Of minus zero the
+    /// whole number is 0, and only this tells its sign.
     pub value: f32,
 }
 
@@ -50,6 +54,24 @@ impl Decimal {
         // The sign is the float's, since minus zero has none as a whole number.
         let size = f64::from(self.whole.unsigned_abs()) / power;
         size.copysign(self.value.into())
+    }
+
+    fn bits(&self) -> (i32, u8, u32) {
+        (self.whole, self.decimals, self.value.to_bits())
+    }
+}
+
+impl PartialEq for Decimal {
+    fn eq(&self, other: &Self) -> bool {
+        self.bits() == other.bits()
+    }
+}
+
+impl Eq for Decimal {}
+
+impl Hash for Decimal {
+    fn hash<H: Hasher>(&self, state: &mut H) {
+        self.bits().hash(state);
     }
 }
 

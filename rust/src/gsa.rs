@@ -30,7 +30,7 @@ letters! {
 }
 
 /// Dilutions of precision.
-#[derive(Clone, Copy, Debug, PartialEq)]
+#[derive(Clone, Copy, Debug, PartialEq, Eq, Hash)]
 pub struct Dops {
     /// Of the position.
     pub pdop: Decimal,
@@ -41,7 +41,7 @@ pub struct Dops {
 }
 
 /// A GSA sentence: the satellites of the fix and its precision.
-#[derive(Clone, Debug, PartialEq)]
+#[derive(Clone, Debug, PartialEq, Eq, Hash)]
 #[non_exhaustive]
 pub struct Gsa {
     /// Who sent it.

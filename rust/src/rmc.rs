@@ -73,7 +73,7 @@ letters! {
 }
 
 /// An RMC sentence: when, where, and which way.
-#[derive(Clone, Copy, Debug, PartialEq)]
+#[derive(Clone, Copy, Debug, PartialEq, Eq, Hash)]
 #[non_exhaustive]
 pub struct Rmc {
     /// Who sent it.
@@ -90,7 +90,8 @@ pub struct Rmc {
     pub course: Option<Decimal>,
     /// The day of the fix.
     pub date: Option<Date>,
-    /// Magnetic variation, in degrees; below zero, or minus zero, to the west.
+    /// Magnetic variation, in degrees to the east: W negates what stands before
+    /// it, so that `0,W` is minus zero, and `-0,W` zero.
     pub variation: Option<Decimal>,
     /// How the fix was made.
     pub mode: Option<Mode>,

@@ -6,7 +6,7 @@ use crate::{
 };
 
 /// What an accepted line says.
-#[derive(Clone, Debug, PartialEq)]
+#[derive(Clone, Debug, PartialEq, Eq, Hash)]
 #[non_exhaustive]
 pub enum Sentence {
     /// When, where, and which way.

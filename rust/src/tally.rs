@@ -69,7 +69,7 @@ pub enum Kind {
 }
 
 /// What a line says.
-#[derive(Clone, Debug, PartialEq)]
+#[derive(Clone, Debug, PartialEq, Eq, Hash)]
 pub enum Answer {
     /// The line has nothing but its end.
     Blank,

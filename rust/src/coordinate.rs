@@ -92,13 +92,19 @@ impl Position {
 }
 
 /// Whole degrees, minutes with all nine decimals, and the letter, exactly: as
-/// in `51 30.500000000 N`.
+/// in `51 30.500000000 N`. A minus sign stands in front where the place lies on
+/// the other side than its letter says: `-0 30.000000000 N` is to the south.
 impl fmt::Display for Coordinate {
     fn fmt(&self, f: &mut fmt::Formatter) -> fmt::Result {
+        let is_other_side = match self.hemisphere {
+            Hemisphere::North | Hemisphere::East => self.billionths < 0,
+            Hemisphere::South | Hemisphere::West => self.billionths > 0,
+        };
+        let sign = if is_other_side { "-" } else { "" };
         let minutes = self.billionths.unsigned_abs() / 1_000_000_000;
         let billionths = self.billionths.unsigned_abs() % 1_000_000_000;
         let (degrees, minutes) = (minutes / 60, minutes % 60);
         let letter = self.hemisphere.letter();
-        write!(f, "{degrees} {minutes:02}.{billionths:09} {letter}")
+        write!(f, "{sign}{degrees} {minutes:02}.{billionths:09} {letter}")
     }
 }

@@ -24,6 +24,36 @@ fn too_few_words_are_left_alone() {
     assert_eq!(answer(b"", &mut []), UNDONE);
 }
 
+/// The sign word is that of the whole number, and 0 of minus zero, which the float's bits tell; a coordinate's is that of
+/// its count, and not its letter's.
+#[test]
+fn words_of_signed_numbers() {
+    let words = |body: &str| {
+        let mut words = [7; WORDS];
+        assert_eq!(answer(with_checksum(body).as_bytes(), &mut words), DONE);
+        words
+    };
+    let single = |value: f32| u64::from(value.to_bits());
+    let rmc = words("GPRMC,,A,00-30,N,00006.0,W,-0,-4.5,,-0,W");
+    assert_eq!(rmc[9], 1);
+    let half = (-0.5f64).to_bits();
+    assert_eq!(rmc[10..14], [1, 30_000_000_000, b'N'.into(), half]);
+    let tenth = (-0.1f64).to_bits();
+    assert_eq!(rmc[14..18], [1, 6_000_000_000, b'W'.into(), tenth]);
+    assert_eq!(rmc[18..23], [1, 0, 0, 0, 0x8000_0000]);
+    assert_eq!(rmc[23..28], [1, 1, 45, 1, single(-4.5)]);
+    assert_eq!(rmc[32..37], [1, 0, 0, 0, 0]);
+    let rmc = words("GPRMC,,A,00-30,S,000-0,E,,,,,");
+    let half = 0.5f64.to_bits();
+    assert_eq!(rmc[10..14], [0, 30_000_000_000, b'S'.into(), half]);
+    assert_eq!(rmc[14..18], [0, 0, b'E'.into(), 0]);
+    let gsa = words("GPGSA,A,1,-1,-0.0,0");
+    assert_eq!(gsa[6], 1);
+    assert_eq!(gsa[7..11], [1, 1, 0, single(-1.0)]);
+    assert_eq!(gsa[11..15], [0, 0, 1, 0x8000_0000]);
+    assert_eq!(gsa[15..19], [0; 4]);
+}
+
 #[test]
 fn totals() {
     let log = worked_log("\n");

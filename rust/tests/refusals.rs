@@ -72,8 +72,47 @@ fn numbers_times_and_dates() {
     let of = |body: &str| refused(with_checksum(body).as_bytes());
     assert_eq!(of("GPRMC,,A,,,,,fast,,,,"), Refusal::Number);
     assert_eq!(of("GPRMC,,A,,,,,12345678,,,,"), Refusal::Number);
+    assert_eq!(of("GPRMC,,A,,,,,-12345678,,,,"), Refusal::Number);
     assert_eq!(of("GPRMC,240000,A,,,,,,,,,"), Refusal::Syntax);
     assert_eq!(of("GPRMC,,A,,,,,,,290223,,"), Refusal::Syntax);
+}
+
+/// Number stands before every other test of the seconds.
+#[test]
+fn seconds_with_a_sign() {
+    let of = |time: &str| refused(with_checksum(&format!("GPRMC,{time},A,,,,,,,,,")).as_bytes());
+    for seconds in ["-0", "-0.0", "-1", "-59.999999999", "-99", "-999"] {
+        assert_eq!(of(&format!("0000{seconds}")), Refusal::Syntax, "{seconds}");
+        assert_eq!(of(&format!("2460{seconds}")), Refusal::Syntax, "{seconds}");
+    }
+    for seconds in ["-1e1", "-", "--1", "+1", "-1000", "-1.", "-.5"] {
+        assert_eq!(of(&format!("0000{seconds}")), Refusal::Number, "{seconds}");
+        assert_eq!(of(&format!("2460{seconds}")), Refusal::Number, "{seconds}");
+    }
+}
+
+/// A decimal has one minus sign at most, before its digits; and a plus sign is none.
+#[test]
+fn what_is_no_sign() {
+    let places = [
+        "GPRMC,0000@,A,,,,,,,,,",
+        "GPRMC,,A,00@,N,0000,E,,,,,",
+        "GPRMC,,A,000,N,000@,E,,,,,",
+        "GPRMC,,A,,,,,@,,,,",
+        "GPRMC,,A,,,,,,@,,,",
+        "GPRMC,,A,,,,,,,,@,W",
+        "GPGSA,A,1,16,@,1,1",
+        "GPGSA,A,1,16,1.0,@,1",
+        "GPGSA,A,1,16,1.0,1,@",
+    ];
+    for place in places {
+        for text in [
+            "--1", "-", "-.5", "1-1", "1-", "-1.", "-1.-5", "+1", "-+1", "+-1", "- 1", "-1e1",
+        ] {
+            let line = with_checksum(&place.replace('@', text));
+            assert_eq!(refused(line.as_bytes()), Refusal::Number, "{line}");
+        }
+    }
 }
 
 /// Every refusal with its number, and as it is printed.

@@ -472,6 +472,11 @@ fn objects(text: &str) -> Vec<Json> {
     text.lines().map(parsed).collect()
 }
 
+/// A decimal as an object has it.
+fn decimal(text: &str, whole: i32, decimals: u8, value: &str) -> String {
+    format!(r#"{{"text":"{text}","whole":{whole},"decimals":{decimals},"value":{value}}}"#)
+}
+
 #[test]
 fn objects_of_each_kind() {
     let mut log = log_of(&[
@@ -487,9 +492,6 @@ fn objects_of_each_kind() {
     log.extend(b"\n$GPTXT,i*0A and more");
     let ran = run_on(&["--json"], &log);
     assert_eq!((ran.error.as_str(), ran.status), ("", Some(0)));
-    let decimal = |text: &str, whole: i32, decimals: u8, value: &str| {
-        format!(r#"{{"text":"{text}","whole":{whole},"decimals":{decimals},"value":{value}}}"#)
-    };
     let line = |kind: &str, line: u64, rest: &str| {
         format!(r#"{{"kind":"{kind}","file":"-","line":{line}{rest}}}"#)
     };
@@ -570,6 +572,52 @@ fn objects_of_each_kind() {
             .into(),
     ];
     assert_eq!(ran.out.lines().collect::<Vec<_>>(), expected);
+    objects(&ran.out);
+}
+
+/// Minus zero is told by text and float, the side of a place by count and degrees.
+#[test]
+fn objects_with_signs() {
+    let log = log_of(&[
+        "GPRMC,,A,00-30,N,000-0,W,-0,-4.50,,-0,W",
+        "GPRMC,,A,00-0,N,000-6,W,-0.0,0,,-20.3,W",
+        "GPGSA,A,1,-1,-0,0",
+    ]);
+    let ran = run_on(&["--json"], &log);
+    assert_eq!((ran.error.as_str(), ran.status), ("", Some(0)));
+    let coordinate = |billionths: i64, letter: char, degrees: &str| {
+        format!(r#"{{"billionths":{billionths},"hemisphere":"{letter}","degrees":{degrees}}}"#)
+    };
+    let keys = ["latitude", "longitude", "speed", "course", "variation"];
+    let first = [
+        coordinate(-30_000_000_000, 'N', "-0.5"),
+        coordinate(0, 'W', "-0.0"),
+        decimal("-0", 0, 0, "-0.0"),
+        decimal("-4.50", -450, 2, "-4.5"),
+        decimal("0", 0, 0, "0.0"),
+    ];
+    let second = [
+        coordinate(0, 'N', "0.0"),
+        coordinate(6_000_000_000, 'W', "0.1"),
+        decimal("-0.0", 0, 1, "-0.0"),
+        decimal("0", 0, 0, "0.0"),
+        decimal("20.3", 203, 1, "20.3"),
+    ];
+    let third = [
+        decimal("-1", -1, 0, "-1.0"),
+        decimal("-0", 0, 0, "-0.0"),
+        decimal("0", 0, 0, "0.0"),
+    ];
+    let lines: Vec<&str> = ran.out.lines().collect();
+    let has = |line: usize, keys: &[&str], parts: &[String]| {
+        for (key, part) in keys.iter().zip(parts) {
+            let (line, expected) = (lines[line], format!(r#""{key}":{part}"#));
+            assert!(line.contains(&expected), "no {expected}: {line}");
+        }
+    };
+    has(0, &keys, &first);
+    has(1, &keys, &second);
+    has(2, &["pdop", "hdop", "vdop"], &third);
     objects(&ran.out);
 }
 

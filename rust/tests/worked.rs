@@ -3,6 +3,8 @@
 
 mod common;
 
+use std::collections::HashSet;
+
 use common::{gsa, gsv, letters, rmc, with_checksum, GSV_1, GSV_2, GSV_3};
 use proved_nmea::{
     read, Coordinate, Date, Decimal, Dops, Entry, Fix, Gsa, Gsv, Hemisphere, Letters, Mode,
@@ -21,21 +23,47 @@ fn short(whole: i32, decimals: u8) -> Decimal {
     }
 }
 
+/// Minus zero, of which the float alone tells the sign.
+fn minus_zero(decimals: u8) -> Decimal {
+    Decimal {
+        whole: 0,
+        decimals,
+        value: -0.0,
+    }
+}
+
 fn dops(pdop: Decimal, hdop: Decimal, vdop: Decimal) -> Option<Dops> {
     Some(Dops { pdop, hdop, vdop })
 }
 
 /// A coordinate from its count: minutes as one division, then divided by 60,
-/// added to the degrees, negated for S or W.
+/// added to the degrees, negated for S or W. What of the count is not degrees
+/// is minutes, which may be below zero.
 fn coordinate(billionths: i64, degrees: u8, hemisphere: Hemisphere) -> Coordinate {
-    let minutes = (billionths.abs() - i64::from(degrees) * 60_000_000_000) as f64 / 1e9;
-    let size = f64::from(degrees) + minutes / 60.;
-    let minus = matches!(hemisphere, Hemisphere::South | Hemisphere::West);
+    let turn = match hemisphere {
+        Hemisphere::North | Hemisphere::East => 1,
+        Hemisphere::South | Hemisphere::West => -1,
+    };
+    let minutes = (turn * billionths - i64::from(degrees) * 60_000_000_000) as f64 / 1e9;
     Coordinate {
         billionths,
         hemisphere,
-        degrees: if minus { -size } else { size },
+        degrees: turn as f64 * (f64::from(degrees) + minutes / 60.),
     }
+}
+
+/// The speed of a sentence that has this text for it.
+fn speed(text: &str) -> Decimal {
+    let record = rmc(&with_checksum(&format!("GPRMC,,A,,,,,{text},,,,")));
+    record.speed.expect("a speed")
+}
+
+/// The latitude of a sentence that has these degrees and minutes, and this letter.
+fn latitude(text: &str, letter: char) -> Coordinate {
+    let record = rmc(&with_checksum(&format!(
+        "GPRMC,,A,{text},{letter},0000,E,,,,,"
+    )));
+    record.position.expect("a position").latitude
 }
 
 fn entry(satellite: u32, elevation: u32, azimuth: u32, signal: u32) -> Option<Entry> {
@@ -228,17 +256,16 @@ fn names_as_text() {
 /// The whole number and the power of ten are exact, so that one division rounds once.
 #[test]
 fn decimals_as_floats() {
-    let speed = |text: &str| {
-        let speed = rmc(&with_checksum(&format!("GPRMC,,A,,,,,{text},,,,"))).speed;
-        speed.expect("a speed")
-    };
-    for text in [
-        "0", "0.1", "4.5", "0.000001", "9999999", "999999.9", "1.234567", "00.30",
+    for size in [
+        "0", "0.0", "0.1", "4.5", "0.000001", "9999999", "999999.9", "1.234567", "00.30",
     ] {
-        let nearest: f64 = text.parse().expect("a float");
-        assert_eq!(speed(text).to_f64().to_bits(), nearest.to_bits(), "{text}");
-        assert_eq!(f64::from(speed(text)), nearest);
-        assert_eq!(f32::from(speed(text)), nearest as f32);
+        for text in [size.into(), format!("-{size}")] {
+            let nearest: f64 = text.parse().expect("a float");
+            let speed = speed(&text);
+            assert_eq!(speed.to_f64().to_bits(), nearest.to_bits(), "{text}");
+            assert_eq!(f64::from(speed).to_bits(), nearest.to_bits());
+            assert_eq!(f32::from(speed).to_bits(), (nearest as f32).to_bits());
+        }
     }
     let line = with_checksum("GPRMC,,A,,,,,,,,0.0,W");
     let variation = rmc(&line).variation.expect("a variation");
@@ -451,6 +478,20 @@ fn variation() {
     // Zero to the west is minus zero.
     assert_eq!(variation("0,E"), ("0".into(), 0, 0));
     assert_eq!(variation("0,W"), ("-0".into(), 0, 0x8000_0000));
+    // W turns a negative one back.
+    assert_eq!(
+        variation("-020.3,E"),
+        ("-20.3".into(), -203, (-20.3f32).to_bits())
+    );
+    assert_eq!(
+        variation("-020.3,W"),
+        ("20.3".into(), 203, 20.3f32.to_bits())
+    );
+    assert_eq!(variation("-0,E"), ("-0".into(), 0, 0x8000_0000));
+    assert_eq!(variation("-0,W"), ("0".into(), 0, 0));
+    let mut expected = bare_rmc(b"GP", Status::Autonomous);
+    expected.variation = Some(short(0, 0));
+    assert_eq!(rmc("$GPRMC,,A,,,,,,,,-0,W*6C"), expected);
 }
 
 #[test]
@@ -518,4 +559,119 @@ fn checksum_bytes() {
     assert_eq!(read(b"$GPTXT,i*0a"), text);
     assert_eq!(read(b"$GPTXT,i*+A"), text);
     assert_eq!(read(b"$GPTXT,i*-A"), Err(Refusal::Syntax));
+}
+
+// Signs
+
+/// The sign is no digit: seven may stand behind it.
+#[test]
+fn decimals_below_zero() {
+    let table = [
+        ("-1", short(-1, 0), "-1"),
+        ("-4.50", short(-450, 2), "-4.50"),
+        ("-0.5", short(-5, 1), "-0.5"),
+        ("-0007", short(-7, 0), "-7"),
+        ("-9999999", short(-9_999_999, 0), "-9999999"),
+        ("-0.000001", short(-1, 6), "-0.000001"),
+        ("-0", minus_zero(0), "-0"),
+        ("-00.00", minus_zero(2), "-0.00"),
+    ];
+    for (text, expected, shown) in table {
+        assert_eq!(speed(text), expected, "{text}");
+        assert_eq!(speed(text).to_string(), shown);
+    }
+    let record = rmc(&with_checksum("GPRMC,,A,,,,,-0,-359.9,,-1.5,W"));
+    assert_eq!(record.speed, Some(minus_zero(0)));
+    assert_eq!(record.course, Some(short(-3599, 1)));
+    assert_eq!(record.variation, Some(short(15, 1)));
+}
+
+/// By its bits: whole number and decimals of the two are the same.
+#[test]
+fn minus_zero_is_not_zero() {
+    let (minus, plus) = (speed("-0"), speed("0"));
+    assert_eq!((minus.whole, minus.decimals), (plus.whole, plus.decimals));
+    assert_ne!(minus, plus);
+    assert_eq!(minus, minus_zero(0));
+    assert_ne!(minus, minus_zero(1));
+    assert_eq!(HashSet::from([minus, plus, minus]).len(), 2);
+
+    // So is every record that holds them.
+    let answers = ["GPRMC,,A,,,,,-0,,,,", "GPRMC,,A,,,,,0,,,,"]
+        .map(|body| read(with_checksum(body).as_bytes()));
+    assert_ne!(answers[0], answers[1]);
+    let [minus, plus] =
+        ["-0", "0"].map(|text| gsa(&with_checksum(&format!("GPGSA,A,1,1.0,{text},1"))));
+    assert_ne!(minus, plus);
+    assert_ne!(minus.dops, plus.dops);
+
+    let minus = latitude("000", 'S');
+    let degrees = 0.0;
+    let plus = Coordinate { degrees, ..minus };
+    assert_ne!(minus, plus);
+    assert_eq!(HashSet::from([minus, plus, minus]).len(), 2);
+}
+
+/// They count against the degrees, and so the count may have another sign than its letter says.
+#[test]
+fn minutes_below_zero() {
+    const MINUTE: i64 = 1_000_000_000;
+    let table = [
+        ("00-30", 'N', -30 * MINUTE, -0.5, "-0 30.000000000 N"),
+        ("00-30", 'S', 30 * MINUTE, 0.5, "-0 30.000000000 S"),
+        ("01-30", 'N', 30 * MINUTE, 0.5, "0 30.000000000 N"),
+        ("01-30", 'S', -30 * MINUTE, -0.5, "0 30.000000000 S"),
+        ("01-90", 'N', -30 * MINUTE, -0.5, "-0 30.000000000 N"),
+        ("10-765", 'S', 165 * MINUTE, 2.75, "-2 45.000000000 S"),
+        ("01-60", 'N', 0, 0.0, "0 00.000000000 N"),
+        ("01-60", 'S', 0, -0.0, "0 00.000000000 S"),
+        ("00-0", 'N', 0, 0.0, "0 00.000000000 N"),
+        ("00-0", 'S', 0, -0.0, "0 00.000000000 S"),
+        ("00-0.000000001", 'N', -1, -1e-9 / 60., "-0 00.000000001 N"),
+    ];
+    for (text, letter, billionths, degrees, shown) in table {
+        let hemisphere = match letter {
+            'N' => Hemisphere::North,
+            _ => Hemisphere::South,
+        };
+        let expected = Coordinate {
+            billionths,
+            hemisphere,
+            degrees,
+        };
+        assert_eq!(latitude(text, letter), expected, "{text},{letter}");
+        assert_eq!(latitude(text, letter).to_string(), shown);
+    }
+
+    // The longest: nine decimals, each operation rounded.
+    let line = with_checksum("GNRMC,,A,99-999.999999999,S,255-999.999999999,W,,,,,");
+    let expected = Position {
+        latitude: coordinate(-4_940_000_000_001, 99, Hemisphere::South),
+        longitude: coordinate(-14_300_000_000_001, 255, Hemisphere::West),
+    };
+    assert_eq!(rmc(&line).position, Some(expected));
+    let line = with_checksum("GNRMC,,A,000,N,000-7.5,E,,,,,");
+    let longitude = rmc(&line).position.unwrap().longitude;
+    assert_eq!(longitude, coordinate(-7_500_000_000, 0, Hemisphere::East));
+    assert_eq!(longitude.to_string(), "-0 07.500000000 E");
+}
+
+/// `-1,` is no item, since a whole number has no sign; so it is the PDOP.
+#[test]
+fn dops_below_zero() {
+    let head = (Selection::Automatic, Fix::None);
+    let expected = |dops| gsa_of(head, Some(System::Gps), dops, &[]);
+    assert_eq!(
+        gsa("$GPGSA,A,1,-1,0,0*02"),
+        expected(dops(short(-1, 0), short(0, 0), short(0, 0)))
+    );
+    let mismatch = Refusal::SystemMismatch {
+        talker: System::Gps,
+        tail: System::Glonass,
+    };
+    assert_eq!(read(b"$GPGSA,A,1,-1,0,0,2*1C"), Err(mismatch));
+    let line = with_checksum("GPGSA,A,1,16,,18,-0,-2.50,-0.0,1");
+    let mut expected = expected(dops(minus_zero(0), short(-250, 2), minus_zero(1)));
+    expected.satellites = vec![16, 18];
+    assert_eq!(gsa(&line), expected);
 }

@@ -89,19 +89,20 @@ uint32_t nmea_answer(const uint8_t *line, size_t length, uint64_t *words, size_t
 #define NMEA_DATE_MONTH 2
 #define NMEA_DATE_DAY 3
 
-/* Of latitude and longitude. */
+/* Of latitude and longitude. The sign is that of the count, and need not be the letter's: minutes below zero count against the
+ * degrees. */
 #define NMEA_COORDINATE_SIGN 0
 #define NMEA_COORDINATE_SIZE 1
 #define NMEA_COORDINATE_LETTER 2
 #define NMEA_COORDINATE_DEGREES 3
 
-/* Of speed, course and variation. */
+/* Of speed, course and variation. Of minus zero sign and size are 0: the float's sign bit tells it. */
 #define NMEA_DECIMAL_SIGN 1
 #define NMEA_DECIMAL_SIZE 2
 #define NMEA_DECIMAL_DECIMALS 3
 #define NMEA_DECIMAL_VALUE 4
 
-/* Of PDOP, HDOP and VDOP. */
+/* Of PDOP, HDOP and VDOP; minus zero is told as above. */
 #define NMEA_DOP_SIGN 0
 #define NMEA_DOP_SIZE 1
 #define NMEA_DOP_DECIMALS 2

@@ -1,5 +1,7 @@
 //! What only our answers have.
 
+use std::ops::Neg;
+
 use crate::{fields::Fields, Answer, Entry, F32Bits, F64Bits, Gsv, Rmc};
 
 /// A short decimal.
@@ -104,49 +106,72 @@ impl Exact {
 }
 
 impl Decimal {
-    /// The decimal of a plain text. None if it is absent.
-    fn expected(text: &str, is_negative: bool) -> Option<Self> {
-        let (digits, decimals) = digits(text)?;
-        let digits = u32::try_from(digits).ok()?;
-        let size = digits as f32 / 10u32.checked_pow(decimals)? as f32;
-        let value = if is_negative { -size } else { size };
+    /// The decimal of a plain text, with its sign turned for W. None if it is
+    /// absent.
+    fn expected(text: &str, is_west: bool) -> Option<Self> {
+        let plain = Plain::of(text)?;
+        let digits = u32::try_from(plain.digits).ok()?;
+        let size = digits as f32 / 10u32.checked_pow(plain.decimals)? as f32;
+        let is_negative = plain.minus != is_west;
         Some(Decimal {
             // Minus zero is a float only.
             minus: is_negative && digits > 0,
             digits,
-            decimals,
-            bits: value.to_bits(),
+            decimals: plain.decimals,
+            bits: negated_if(is_negative, size).to_bits(),
         })
     }
 }
 
 impl Coordinate {
     /// The coordinate of a field that starts with so many bytes of degrees.
+    /// Minutes below zero count against them.
     fn expected(field: &str, width: usize, letter: &str) -> Option<Self> {
         let degrees: u8 = field.get(..width)?.parse().ok()?;
-        let (digits, decimals) = digits(&field[width..])?;
-        let billionths = digits * 10u64.pow(9u32.checked_sub(decimals)?);
-        let count = u64::from(degrees) * 60_000_000_000 + billionths;
+        let plain = Plain::of(&field[width..])?;
         let letter = letter.chars().next()?;
-        let is_negative = matches!(letter, 'S' | 'W');
-        let minutes = digits as f64 / 10u64.pow(decimals) as f64;
-        let size = f64::from(degrees) + minutes / 60.;
-        let value = if is_negative { -size } else { size };
+
+        let size = i64::try_from(plain.digits).ok()?;
+        let billionths = size * 10i64.pow(9u32.checked_sub(plain.decimals)?);
+        let billionths = negated_if(plain.minus, billionths);
+        let count = i64::from(degrees) * 60_000_000_000 + billionths;
+        let count = negated_if(is_turned(letter), count);
+
+        let minutes = size as f64 / 10u64.pow(plain.decimals) as f64;
+        let minutes = negated_if(plain.minus, minutes);
+        let value = f64::from(degrees) + minutes / 60.;
+        let value = negated_if(is_turned(letter), value);
         Some(Coordinate {
-            minus: is_negative && count > 0,
-            count,
+            minus: count < 0,
+            count: count.unsigned_abs(),
             letter,
             bits: value.to_bits(),
         })
     }
 
-    /// Whether the float is near the count, and its sign is the letter's.
+    /// Whether the float is near the count and has its sign. The sign of a
+    /// zero is the letter's.
     pub(crate) fn is_near(&self) -> bool {
         let degrees = f64::from_bits(self.bits);
-        let is_negative = matches!(self.letter, 'S' | 'W');
-        (degrees.abs() - self.count as f64 / 60e9).abs() < 1e-9
-            && degrees.is_sign_negative() == is_negative
-            && self.minus == (is_negative && self.count > 0)
+        let count = negated_if(self.minus, self.count as f64);
+        let is_negative = match self.count {
+            0 => is_turned(self.letter) && !self.minus,
+            _ => self.minus,
+        };
+        (degrees - count / 60e9).abs() < 1e-9 && degrees.is_sign_negative() == is_negative
+    }
+}
+
+/// Whether a hemisphere's letter turns the sign.
+fn is_turned(letter: char) -> bool {
+    matches!(letter, 'S' | 'W')
+}
+
+fn negated_if<T: Neg<Output = T>>(is_negated: bool, value: T) -> T {
+    if is_negated {
+        -value
+    } else {
+        value
     }
 }
 
@@ -176,18 +201,35 @@ impl From<WholeEntry> for Entry {
     }
 }
 
-/// The digits of a plain decimal as a whole number, and how many of them
-/// stand after the point. None of an empty text.
-fn digits(text: &str) -> Option<(u64, u32)> {
-    let (mut number, mut decimals, mut is_behind_point) = (0u64, 0, false);
-    for byte in text.bytes() {
-        if byte == b'.' {
-            is_behind_point = true;
-            continue;
+/// What a plain decimal says.
+struct Plain {
+    /// Whether it begins with a minus sign, as minus zero does.
+    minus: bool,
+    /// Its digits as a whole number.
+    digits: u64,
+    /// How many of the digits stand after the point.
+    decimals: u32,
+}
+
+impl Plain {
+    /// None of an empty text.
+    fn of(text: &str) -> Option<Self> {
+        let behind_sign = text.strip_prefix('-');
+        let mut plain = Plain {
+            minus: behind_sign.is_some(),
+            digits: 0,
+            decimals: 0,
+        };
+        let mut is_behind_point = false;
+        for byte in behind_sign.unwrap_or(text).bytes() {
+            if byte == b'.' {
+                is_behind_point = true;
+                continue;
+            }
+            let digit = char::from(byte).to_digit(10)?;
+            plain.digits = plain.digits.checked_mul(10)?.checked_add(digit.into())?;
+            plain.decimals += u32::from(is_behind_point);
         }
-        let digit = char::from(byte).to_digit(10)?;
-        number = number.checked_mul(10)?.checked_add(digit.into())?;
-        decimals += u32::from(is_behind_point);
+        (!text.is_empty()).then_some(plain)
     }
-    (!text.is_empty()).then_some((number, decimals))
 }

@@ -19,7 +19,7 @@ mod worked;
 
 pub use batch::Batch;
 pub use corpus::{corpus, corpus_lines, CorpusLog};
-pub use exhaustive::{exhaustive_parts, SHORT_DECIMALS};
+pub use exhaustive::exhaustive_parts;
 pub use generator::Generator;
 pub use log::generated_log;
 pub use part::Part;

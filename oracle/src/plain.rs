@@ -7,8 +7,10 @@ pub enum Limits {
     Long,
 }
 
-/// Whether a text is a plain decimal within its limits, by document 01.
+/// Whether a text is a plain decimal within its limits, by document 01. Its
+/// minus sign, if it begins with one, is no digit.
 pub fn is_plain(text: &str, limits: Limits) -> bool {
+    let text = text.strip_prefix('-').unwrap_or(text);
     let (whole, decimals) = match text.split_once('.') {
         Some((whole, decimals)) => (whole, Some(decimals)),
         None => (text, None),

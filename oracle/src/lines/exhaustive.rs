@@ -4,7 +4,7 @@ mod places;
 
 use super::{draft::put_whole, worked_lines, Part};
 use crate::{checksum, hexadecimal, repair};
-use places::{DECIMALS, THREE_BYTES, TWO_BYTES};
+use places::{ANGLES, DECIMALS, THREE_BYTES, TWO_BYTES};
 
 /// The values of a byte, and of one below 128.
 const BYTES: u64 = 256;
@@ -13,9 +13,9 @@ const ASCII: u64 = 128;
 /// The most digits of a short decimal.
 const DIGITS: u32 = 7;
 
-/// How many texts are short decimals: of each count of digits, each number
+/// How many texts are short decimals without a sign: of each count of digits, each number
 /// with a point behind any digit or with none.
-pub const SHORT_DECIMALS: u64 = 76_543_210;
+const SHORT_DECIMALS: u64 = 76_543_210;
 
 /// All parts that are tried whole.
 pub fn exhaustive_parts() -> Vec<Part> {
@@ -29,7 +29,9 @@ pub fn exhaustive_parts() -> Vec<Part> {
         dates(),
         counts(),
         single_bytes(),
-        short_decimals(),
+        short_decimals("short decimals", ""),
+        short_decimals("negative short decimals", "-"),
+        negative_minutes(),
     ]
 }
 
@@ -159,15 +161,65 @@ fn single_bytes() -> Part {
     })
 }
 
-/// Every short decimal, its point anywhere, at one place after another.
-fn short_decimals() -> Part {
-    Part::listed("short decimals", SHORT_DECIMALS, |index, line| {
+/// Every short decimal behind the sign, its point anywhere, at one place after
+/// another.
+fn short_decimals(name: &'static str, sign: &'static str) -> Part {
+    Part::listed(name, SHORT_DECIMALS, move |index, line| {
         let decimal = ShortDecimal::of(index);
-        // A whole PDOP would be a satellite.
-        let places = DECIMALS.len() as u64 - u64::from(decimal.decimals == 0);
+        // A whole PDOP without a sign would be a satellite.
+        let is_item = sign.is_empty() && decimal.decimals == 0;
+        let places = DECIMALS.len() as u64 - u64::from(is_item);
         let body = DECIMALS[(decimal.number % places) as usize];
-        at_the_mark(line, body, |line| decimal.put(line));
+        at_the_mark(line, body, |line| {
+            line.extend_from_slice(sign.as_bytes());
+            decimal.put(line);
+        });
     })
+}
+
+/// All degrees to each side, with each of the minutes below zero.
+fn negative_minutes() -> Part {
+    let minutes = minutes_below_zero();
+    let degrees: Vec<(&str, String)> = ANGLES
+        .iter()
+        .flat_map(|&(body, width, bound)| {
+            (0..bound).map(move |degrees| (body, format!("{degrees:0width$}")))
+        })
+        .collect();
+    let count = (degrees.len() * minutes.len()) as u64;
+    Part::listed(
+        "degrees and minutes below zero",
+        count,
+        move |index, line| {
+            let index = index as usize;
+            let (body, degrees) = &degrees[index / minutes.len()];
+            at_the_mark(line, body, |line| {
+                line.extend_from_slice(degrees.as_bytes());
+                line.extend_from_slice(minutes[index % minutes.len()].as_bytes());
+            });
+        },
+    )
+}
+
+/// A minus sign and one to three digits, each of these alone and with decimals:
+/// of one to nine the least, the next, one between and the greatest.
+fn minutes_below_zero() -> Vec<String> {
+    let mut decimals = vec![String::new()];
+    for width in 1..=9 {
+        let last = 10u32.pow(width as u32) - 1;
+        decimals.extend([0, 1, last / 7 * 3, last].map(|number| format!(".{number:0width$}")));
+    }
+    let mut minutes = vec![];
+    for width in 1..=3 {
+        for whole in 0..10u32.pow(width as u32) {
+            minutes.extend(
+                decimals
+                    .iter()
+                    .map(|decimals| format!("-{whole:0width$}{decimals}")),
+            );
+        }
+    }
+    minutes
 }
 
 /// A text of so many digits, of which some stand behind the point.
@@ -263,32 +315,63 @@ mod tests {
 
     #[test]
     fn every_short_decimal_is_read_as_one() {
-        let mut batch = Batch::default();
-        short_decimals().fill(0..50_000, &mut batch);
-        // Each count of decimals comes to each place, a whole PDOP alone to none.
-        let mut kinds = HashSet::new();
-        for line in batch.lines() {
-            assert_eq!(crate_answer(line).number(), 0, "{}", line.escape_ascii());
-            kinds.insert(kind(line));
+        // Each count of decimals comes to each place; a whole PDOP has its sign.
+        let all = 7 * DECIMALS.len();
+        for (sign, count) in [("", all - 1), ("-", all)] {
+            let mut batch = Batch::default();
+            short_decimals("", sign).fill(0..50_000, &mut batch);
+            let mut kinds = HashSet::new();
+            for line in batch.lines() {
+                assert_eq!(crate_answer(line).number(), 0, "{}", line.escape_ascii());
+                let (place, text) = marked(line, &DECIMALS);
+                assert_eq!(text.starts_with('-'), sign == "-", "{text}");
+                let decimals = text.split_once('.');
+                kinds.insert((place, decimals.map(|(_, decimals)| decimals.len())));
+            }
+            assert_eq!(kinds.len(), count);
         }
-        assert_eq!(kinds.len(), 7 * DECIMALS.len() - 1);
     }
 
-    /// The place of a line's decimal, and how many digits it has behind the point.
-    fn kind(line: &[u8]) -> (usize, usize) {
+    /// Which of the marks stands for a field of the line, and that field.
+    fn marked<'a>(line: &'a [u8], marks: &[&str]) -> (usize, &'a str) {
         let line = str::from_utf8(line).unwrap();
         let body = &line[1..line.len() - 3];
-        let text = |mark: &str| {
+        let field = |mark: &str| {
             let (before, after) = mark.split_once('?')?;
             let text = body.strip_prefix(before)?.strip_suffix(after)?;
-            is_plain(text, Limits::Short).then_some(text)
+            (!text.contains(',')).then_some(text)
         };
-        let place = DECIMALS
-            .iter()
-            .position(|mark| text(mark).is_some())
-            .unwrap();
-        let decimals = text(DECIMALS[place]).unwrap().split_once('.');
-        (place, decimals.map_or(0, |(_, decimals)| decimals.len()))
+        let mut fields = marks.iter().map(|mark| field(mark)).enumerate();
+        fields
+            .find_map(|(place, field)| Some((place, field?)))
+            .unwrap()
+    }
+
+    #[test]
+    fn minutes_below_zero_are_plain_and_come_once() {
+        let minutes = minutes_below_zero();
+        assert_eq!(minutes.len(), (10 + 100 + 1000) * (1 + 4 * 9));
+        for text in &minutes {
+            assert!(text.starts_with('-') && is_plain(text, Limits::Long));
+        }
+        let texts: HashSet<&String> = minutes.iter().collect();
+        assert_eq!(texts.len(), minutes.len());
+    }
+
+    #[test]
+    fn all_degrees_come_with_minutes_below_zero() {
+        let mut batch = Batch::default();
+        negative_minutes().fill(0..50_000, &mut batch);
+        let marks = ANGLES.map(|(body, _, _)| body);
+        let mut met = HashSet::new();
+        for line in batch.lines() {
+            assert_eq!(crate_answer(line).number(), 0, "{}", line.escape_ascii());
+            let (angle, field) = marked(line, &marks);
+            let (degrees, minutes) = field.split_at(ANGLES[angle].1);
+            assert!(minutes.starts_with('-'), "{field}");
+            met.insert((angle, degrees));
+        }
+        assert_eq!(met.len(), 2 * (100 + 256));
     }
 
     #[test]

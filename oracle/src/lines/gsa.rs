@@ -77,7 +77,8 @@ impl Draft {
         }
     }
 
-    /// A DOP has its point; a whole one is odd.
+    /// A DOP has its point; a whole one is odd, unless a sign says that it is
+    /// no item.
     fn dop(&mut self) {
         if self.random.odd() {
             return match self.random.below(3) {
@@ -86,10 +87,13 @@ impl Draft {
                 _ => self.short(),
             };
         }
+        let is_whole = self.sign() && self.random.one_in(2);
         let (whole, decimals) = (self.random.below(100), self.random.below(100));
         self.whole(whole, 1);
-        self.byte(b'.');
-        self.whole(decimals, 1);
+        if !is_whole {
+            self.byte(b'.');
+            self.whole(decimals, 1);
+        }
     }
 
     fn system(&mut self) {

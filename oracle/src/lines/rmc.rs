@@ -4,7 +4,7 @@ const MODES: &[u8] = b"ACDEFMNPRSU";
 const STATUSES: &[u8] = b"ADEMNSV";
 
 /// Times at their limits, and no times.
-const ODD_TIMES: [&str; 14] = [
+const ODD_TIMES: [&str; 19] = [
     "235959.999999999",
     "235959.9999999999",
     "235900.000000001",
@@ -19,6 +19,11 @@ const ODD_TIMES: [&str; 14] = [
     "00000",
     "000",
     "000060x",
+    "2359-0",
+    "2359-59.5",
+    "2460-60",
+    "2460-1e1",
+    "2460--1",
 ];
 
 /// Days at the ends of months and in leap years, and no days.
@@ -28,8 +33,9 @@ const ODD_DATES: [&str; 26] = [
     "311124", "000124", "320124", "010024", "011324", "+1+2+3", "0101", "01012024",
 ];
 
-/// Positions that are neither absent nor whole.
-const ODD_POSITIONS: [&str; 12] = [
+/// Positions that are neither absent nor whole, and minutes that count against
+/// the degrees.
+const ODD_POSITIONS: [&str; 20] = [
     ",,",
     ",",
     "",
@@ -42,6 +48,14 @@ const ODD_POSITIONS: [&str; 12] = [
     "0000,N",
     "00,N,000,E",
     "0000,N,00000,E,",
+    "00-30,N,000-30,E",
+    "00-30,S,000-30,W",
+    "00-0,N,000-0,W",
+    "00-0.0,S,000-0.0,E",
+    "01-60,N,016-960,W",
+    "16-960,S,001-60,E",
+    "00-999.999999999,N,000-999.999999999,W",
+    "99-0.000000001,S,255-0.000000001,E",
 ];
 
 impl Draft {
@@ -72,6 +86,10 @@ impl Draft {
         }
         self.fixed_width(24, 2);
         self.fixed_width(60, 2);
+        // Signed seconds are refused, and few lines are to end here.
+        if self.random.one_in(4) {
+            self.sign();
+        }
         self.long();
     }
 
@@ -82,15 +100,22 @@ impl Draft {
         if self.random.one_in(5) {
             return self.put(",,,");
         }
-        self.fixed_width(90, 2);
-        self.long();
+        self.angle(90, 2);
         self.comma();
         self.letter(b"NS");
         self.comma();
-        self.fixed_width(256, 3);
-        self.long();
+        self.angle(256, 3);
         self.comma();
         self.letter(b"EW");
+    }
+
+    /// Degrees below the bound, of so many bytes, and minutes.
+    fn angle(&mut self, bound: usize, width: usize) {
+        // One in eight is near 0, where minutes below zero lead across.
+        let bound = if self.random.one_in(8) { 2 } else { bound };
+        self.fixed_width(bound, width);
+        self.sign();
+        self.long();
     }
 
     fn date(&mut self) {
@@ -125,7 +150,10 @@ impl Draft {
         }
         match self.random.below(8) {
             0..=3 => self.comma(),
-            4 => self.put("0,W"),
+            4 => {
+                self.sign();
+                self.put("0,W");
+            }
             _ => {
                 self.short();
                 self.comma();

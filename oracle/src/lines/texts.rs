@@ -34,14 +34,28 @@ const ODD_NUMBERS: [&str; 27] = [
 ];
 
 /// Texts at the edges of a plain decimal, short and long, and beyond them.
-const ODD_DECIMALS: [&str; 50] = [
+const ODD_DECIMALS: [&str; 71] = [
     "5.",
     ".5",
     ".",
     "+1",
     "-1",
     "-0",
+    "-0.0",
+    "-99",
+    "-60",
+    "-59.999999999",
     "-.5",
+    "-5.",
+    "-",
+    "-.",
+    "--1",
+    "-+1",
+    "+-1",
+    "- 1",
+    "1-1",
+    "1-",
+    "-1e1",
     "1e1",
     "1E+1",
     "1e-3",
@@ -67,8 +81,12 @@ const ODD_DECIMALS: [&str; 50] = [
     "/1",
     "1234567",
     "12345678",
+    "-1234567",
+    "-12345678",
     "1.234567",
     "1.2345678",
+    "-1.234567",
+    "-1.2345678",
     "123456.7",
     "0000000",
     "00000000",
@@ -83,6 +101,9 @@ const ODD_DECIMALS: [&str; 50] = [
     "1000",
     "999.999999999",
     "999.9999999999",
+    "-999.999999999",
+    "-999.9999999999",
+    "-1000",
     "0001",
     "0.0000000005",
 ];
@@ -132,8 +153,18 @@ impl Draft {
         }
     }
 
-    /// A decimal of at most 7 digits.
+    /// A minus sign before one decimal in six. Whether it is there.
+    pub(super) fn sign(&mut self) -> bool {
+        let is_there = self.random.one_in(6);
+        if is_there {
+            self.byte(b'-');
+        }
+        is_there
+    }
+
+    /// A decimal of at most 7 digits, which may have a sign.
     pub(super) fn short(&mut self) {
+        self.sign();
         if self.random.odd() {
             return match self.random.below(3) {
                 // Seven digits and eight.

@@ -33,7 +33,7 @@ const COMMENT_BODIES: [&str; 4] = [
 ];
 
 /// Bodies of sentences that document 01 speaks of.
-const BODIES: [&str; 15] = [
+const BODIES: [&str; 36] = [
     "GLGSV,3,3,09,88,07,028,",
     "GPGSV,1,1,03,01,40,083,46,02,-5,308,41,12,07,344,39",
     "GPGSA,A,3,16,18,,22,24,3,2,1",
@@ -49,6 +49,28 @@ const BODIES: [&str; 15] = [
     "GPRMC,,A,,,,,,,,,X,S",
     "GPRMC,,A,,,,,,,,",
     "GPTXT,i",
+    // Signs on decimals.
+    "GPRMC,,A,,,,,,,,-0,W",
+    "GPRMC,,A,,,,,,,,-0,E",
+    "GPRMC,,A,,,,,,,,-1.5,W",
+    "GPRMC,,A,,,,,-0,-0.0,,,",
+    "GPRMC,,A,,,,,-1234567,-1.5,,,",
+    "GPRMC,,A,,,,,-12345678,,,,",
+    "GPRMC,,A,00-30,N,000-30,W,,,,,",
+    "GPRMC,,A,00-0,N,000-0,W,,,,,",
+    "GPRMC,,A,51-30.5,S,016-999.999999999,E,,,,,",
+    "GPRMC,0000-0,A,,,,,,,,,",
+    "GPRMC,0000-99,A,,,,,,,,,",
+    "GPRMC,0000-1e1,A,,,,,,,,,",
+    "GPRMC,,A,,,,,+1,,,,",
+    "GPRMC,,A,,,,,--1,,,,",
+    "GPRMC,,A,,,,,-,,,,",
+    "GPRMC,,A,,,,,-.5,,,,",
+    "GPRMC,,A,,,,,1-1,,,,",
+    "GPGSA,A,1,-1,0,0",
+    "GPGSA,A,1,-1,0,0,2",
+    "GPGSA,A,3,16,18,-3,-0,-2.2",
+    "GPGSA,A,3,16,-12345678,1,1",
 ];
 
 /// The lines of the crate's comments, as they are and with right checksums.

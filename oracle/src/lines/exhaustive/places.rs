@@ -1,7 +1,7 @@
 //! Bodies of sentences, each with the marks of one place.
 
 /// Places of two bytes, and of a letter with the byte behind it.
-pub(super) const TWO_BYTES: [&str; 54] = [
+pub(super) const TWO_BYTES: [&str; 55] = [
     // Hour, minute and second.
     "GPRMC,??1500.25,A,,,,,,,,,",
     "GPRMC,10??00.25,A,,,,,,,,,",
@@ -16,6 +16,7 @@ pub(super) const TWO_BYTES: [&str; 54] = [
     "GPRMC,,A??,,,,,,,,",
     "GPRMC,,A,??,,,,,,",
     "GPRMC,,A,??30.5,N,00006.0,W,,,,,",
+    "GPRMC,,A,??-30.5,N,00006.0,W,,,,,",
     "GPRMC,,A,51??,N,00006.0,W,,,,,",
     "GPRMC,,A,51??.5,N,00006.0,W,,,,,",
     "GPRMC,,A,5130.??,N,00006.0,W,,,,,",
@@ -68,10 +69,11 @@ pub(super) const TWO_BYTES: [&str; 54] = [
 ];
 
 /// Places of three bytes, the nine decimals among them.
-pub(super) const THREE_BYTES: [&str; 20] = [
+pub(super) const THREE_BYTES: [&str; 21] = [
     "GPRMC,1015???,A,,,,,,,,,",
     "GPRMC,,A,51???,N,00006.0,W,,,,,",
     "GPRMC,,A,5130.5,N,???06.0,W,,,,,",
+    "GPRMC,,A,5130.5,N,???-06.0,W,,,,,",
     "GPRMC,,A,5130.5,N,000???,W,,,,,",
     "GPRMC,,A,,,,,???,,,,",
     "GPRMC,,A,,,,,,???,,,",
@@ -100,4 +102,13 @@ pub(super) const DECIMALS: [&str; 7] = [
     "GPGSA,A,3,16,3.6,?,2.2",
     "GPGSA,A,3,16,3.6,2.1,?",
     "GPGSA,A,3,16,?,2.1,2.2",
+];
+
+/// The places of a latitude and of a longitude, each to both sides. Behind each
+/// stand the width of its degrees and their bound.
+pub(super) const ANGLES: [(&str, usize, u32); 4] = [
+    ("GPRMC,,A,?,N,0000,E,,,,,", 2, 100),
+    ("GPRMC,,A,?,S,0000,E,,,,,", 2, 100),
+    ("GPRMC,,A,000,N,?,E,,,,,", 3, 256),
+    ("GPRMC,,A,000,N,?,W,,,,,", 3, 256),
 ];

@@ -8,7 +8,7 @@ use describe::{describe, describe_refusal};
 use document::{all_rows, listed_types, section, Row, TYPES};
 use nmea::SentenceType;
 use oracle::{
-    answer_of, crate_answer, crate_gsa, crate_gsv, crate_rmc, is_plain, lines::Batch,
+    answer_of, crate_answer, crate_gsa, crate_gsv, crate_rmc, is_plain, lines::Batch, owed,
     with_checksum, Answer, Limits, Ours, Refusal, KNOWN_TYPES,
 };
 
@@ -38,9 +38,7 @@ struct Place {
 type Probe = (&'static str, &'static str);
 
 /// Tried at every place, before those beyond its limits.
-const ANYWHERE: [Probe; 10] = [
-    ("minus sign", "-1"),
-    ("minus zero", "-0"),
+const ANYWHERE: [Probe; 8] = [
     ("plus sign", "+1"),
     ("exponent", "1e1"),
     ("exponent", "1E+1"),
@@ -216,6 +214,24 @@ fn a_place_lists_the_probes_that_the_crate_accepts_there() {
             assert!(matches!(number, 0 | 4), "{}", place.sentence(text));
         }
     }
+}
+
+#[test]
+fn a_minus_sign_alone_is_no_difference() {
+    let mut tried = 0;
+    for place in &PLACES {
+        let number = if place.heading == "Seconds" { 4 } else { 0 };
+        for text in texts("-10.", 6) {
+            if !text.starts_with('-') || !is_plain(&text, place.limits) {
+                continue;
+            }
+            let line = place.sentence(&text);
+            assert_eq!(owed(line.as_bytes()), None, "{line}");
+            assert_eq!(place.answer(&text).number(), number, "{line}");
+            tried += 1;
+        }
+    }
+    assert!(tried > 500, "{tried}");
 }
 
 #[test]
@@ -432,7 +448,8 @@ fn short_texts_are_accepted_exactly_by_the_words() {
 
 #[test]
 fn we_answer_as_the_rows_say() {
-    // the rows of the readers of one type, which we do not export, say what they answer to the same line
+    // The rows of the readers of one type, which we do not export, say what they
+    // answer to the same line.
     let rows = all_rows();
     let lines: Batch = rows.iter().map(|row| row.sentence).collect();
     let answers = Ours::find()

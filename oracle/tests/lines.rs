@@ -2,7 +2,7 @@
 
 use std::collections::{BTreeMap, HashSet};
 
-use oracle::{crate_answer, lines::Generator, Class, LONGEST_FRAME};
+use oracle::{crate_answer, lines::Generator, Answer, Class, Refusal, LONGEST_FRAME};
 
 #[test]
 fn a_seed_gives_the_same_lines() {
@@ -49,4 +49,37 @@ fn every_answer_is_reached() {
     for length in [101, 102, 103] {
         assert!(lengths[&length] > 100, "{lengths:?}");
     }
+}
+
+/// Where the decimals of RMC stand behind the seconds: the field, and how many
+/// bytes of it stand before them.
+const BEHIND_SECONDS: [(usize, usize); 5] = [(3, 2), (5, 3), (7, 0), (8, 0), (10, 0)];
+
+#[test]
+fn signs_come_at_every_decimal_place() {
+    // Of what is read, and of seconds, which are refused.
+    let mut signs = [0; 9];
+    for line in Generator::new(1).take(20_000) {
+        let fields: Vec<&[u8]> = line.split(|&byte| byte == b',').collect();
+        let is_signed = |field: usize, before: usize| fields[field].get(before) == Some(&b'-');
+        let is_float_signed = |bits: Option<u32>| bits.is_some_and(|bits| bits >> 31 == 1);
+        match crate_answer(&line) {
+            Answer::Rmc(_) => {
+                for (count, (field, before)) in signs.iter_mut().zip(BEHIND_SECONDS) {
+                    *count += usize::from(is_signed(field, before));
+                }
+            }
+            Answer::Gsa(record) => {
+                let dops = [record.pdop, record.hdop, record.vdop];
+                for (count, dop) in signs[5..].iter_mut().zip(dops) {
+                    *count += usize::from(is_float_signed(dop));
+                }
+            }
+            Answer::Refused(Refusal::Syntax) => {
+                signs[8] += usize::from(fields.len() > 1 && is_signed(1, 4));
+            }
+            _ => {}
+        }
+    }
+    assert!(signs.iter().all(|&count| count > 100), "{signs:?}");
 }

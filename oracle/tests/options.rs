@@ -29,7 +29,12 @@ fn a_short_comparison() -> io::Result<()> {
         last.starts_with("compared ") && last.ends_with(" 0 differ"),
         "{last}"
     );
-    for part in ["100  short decimals, of 76543210", "1000  generated"] {
+    for part in [
+        "100  short decimals, of 76543210",
+        "100  negative short decimals, of 76543210",
+        "100  degrees and minutes below zero, of 29241840",
+        "1000  generated",
+    ] {
         assert!(printed.contains(part), "{printed}");
     }
     Ok(())

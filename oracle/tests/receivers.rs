@@ -57,9 +57,12 @@ fn the_counts_are_those_of_the_logs() -> Result<(), Box<dyn Error>> {
                 met.entry(what).or_default().count(i);
             }
             met.entry(crate_says).or_default().count(i);
+            if matches!(theirs, Answer::Rmc(_) | Answer::Gsa(_)) {
+                assert!(!line.contains(&b'-'), "{}", line.escape_ascii());
+            }
         }
     }
-    // of what the crate reads, the classes that a difference is of
+    // Of what the crate reads, the classes that a difference is of.
     let of_a_difference = |what: &str| met.keys().any(|key| key != what && key.ends_with(what));
     let counts: Vec<String> = met
         .iter()

@@ -93,6 +93,50 @@ fn minus_zero_is_a_float_only() {
 }
 
 #[test]
+fn signs_of_rmc() {
+    // Minutes count against the degrees, and W turns the sign.
+    let latitude: f64 = -(30.5 / 60.);
+    let longitude: f64 = -(1. - 0.25 / 60.);
+    let first: [&[u64]; 8] = [
+        &[1, letter('G'), letter('N')],
+        &[0, 0, 0, 0, 0, letter('A')],
+        &[1, 1, 30_500_000_000, letter('N'), latitude.to_bits()],
+        &[1, 59_750_000_000, letter('W'), longitude.to_bits()],
+        &[1, 0, 0, 1, f32_bits(-0.)],
+        &[1, 1, 2700, 1, f32_bits(-270.)],
+        &[0, 0, 0, 0],
+        &[1, 0, 203, 1, f32_bits(20.3)],
+    ];
+    let line = with_checksum("GNRMC,,A,00-30.5,N,001-0.25,W,-0.0,-270.0,,-20.3,W");
+    only(line, &first.concat(), Domain::Inside);
+}
+
+#[test]
+fn minutes_of_minus_zero_are_no_sign() {
+    let first: [&[u64]; 4] = [
+        &[1, letter('G'), letter('N')],
+        &[0, 0, 0, 0, 0, letter('A')],
+        &[1, 0, 0, letter('N'), f64::to_bits(0.)],
+        &[0, 0, letter('W'), f64::to_bits(-0.)],
+    ];
+    let line = with_checksum("GNRMC,,A,00-0,N,000-0,W,,,,,");
+    only(line, &first.concat(), Domain::Inside);
+}
+
+#[test]
+fn signs_of_gsa() {
+    let first: [&[u64]; 4] = [
+        &[2, letter('G'), letter('P'), letter('A'), letter('1'), 1],
+        &[1, 1, 1, 0, f32_bits(-1.)],
+        &[0, 0, 0, f32_bits(0.)],
+        &[0, 0, 0, f32_bits(0.)],
+    ];
+    only("$GPGSA,A,1,-1,0,0*02", &first.concat(), Domain::Inside);
+    let first = [5, 8, 2, 1, 2];
+    only("$GPGSA,A,1,-1,0,0,2*1C", &first, Domain::Inside);
+}
+
+#[test]
 fn gsa() {
     let first: [&[u64]; 5] = [
         &[2, letter('G'), letter('P'), letter('A'), letter('3'), 1],
@@ -138,7 +182,7 @@ fn refusals() {
         Domain::Inside,
     );
     only("$GPGSA,A,1,,,,2*00", &[5, 8, 2, 1, 2], Domain::Inside);
-    only("$GNRMC,,A,,,,,-1,,,,*24", &[5, 9], Domain::Outside);
+    only("$GNRMC,,A,,,,,+1,,,,*22", &[5, 9], Domain::Outside);
 }
 
 #[test]
@@ -149,7 +193,8 @@ fn number_is_answered_exactly_where_a_wrong_decimal_is_reached() {
         // The crate accepts the decimal, or has a parsing error there.
         "GNRMC,,A,,,,,1e1,,,,",
         "GNRMC,,A,,,,,fast,,,,",
-        // Number stands before the ranges, and before what follows.
+        // Number stands before a sign and the ranges, and before what follows.
+        "GNRMC,0000-1e1,A,,,,,,,,,",
         "GNRMC,99991x,A,,,,,,,,,",
         "GNRMC,,A,,,,,1x",
     ];
@@ -160,7 +205,9 @@ fn number_is_answered_exactly_where_a_wrong_decimal_is_reached() {
         assert!(verdict(line, &syntax).is_err(), "{body}");
     }
     let not_due = [
-        // The status stands before the speed.
+        // Signed seconds, and a status, stand before the speed.
+        "GNRMC,0000-0,A,,,,,1x,,,,",
+        "GNRMC,0000-99,A,,,,,1x,,,,",
         "GNRMC,,X,,,,,1x,,,,",
         // A whole PDOP is an item, however long.
         "GNGSA,A,1,12345678,1.0,1",

@@ -3,8 +3,8 @@
 //! is written from the document's words; the crate must answer the same.
 
 use oracle::{
-    crate_answer, crate_gsa, crate_gsv, crate_rmc, with_checksum, Answer, Date, Entry, Gsa, Gsv,
-    Refusal, Rmc, System, Time,
+    crate_answer, crate_gsa, crate_gsv, crate_rmc, expected, with_checksum, Answer, Coordinate,
+    Date, Decimal, Entry, Exact, Gsa, Gsv, Refusal, Rmc, System, Time,
 };
 
 /// The three GSV lines of one group, from the comment in gsv.rs.
@@ -580,6 +580,184 @@ fn talker_and_tail_of_two_systems() {
         refused(line.as_bytes()),
         mismatch(System::Beidou, System::Galileo)
     );
+}
+
+// Signs on decimals
+
+/// What the text of an accepted line says, also beyond what the crate answers.
+fn exact(line: &str) -> Exact {
+    let ours = expected(line.as_bytes());
+    assert_eq!(ours.answer.number(), 0, "{line}");
+    ours.exact
+}
+
+/// A short decimal, by its whole number, its count of decimals and its float.
+fn decimal(whole: i32, decimals: u32, float: f32) -> Option<Decimal> {
+    Some(Decimal {
+        minus: whole < 0,
+        digits: whole.unsigned_abs(),
+        decimals,
+        bits: float.to_bits(),
+    })
+}
+
+/// The float of a short decimal, as the crate has it.
+fn bits(decimal: Option<Decimal>) -> Option<u32> {
+    decimal.map(|decimal| decimal.bits)
+}
+
+#[test]
+fn speed_course_and_variation_with_a_sign() {
+    let texts = [
+        ("-1", decimal(-1, 0, -1.), decimal(1, 0, 1.)),
+        ("-1.50", decimal(-150, 2, -1.5), decimal(150, 2, 1.5)),
+        ("-0", decimal(0, 0, -0.), decimal(0, 0, 0.)),
+        ("-0.00", decimal(0, 2, -0.), decimal(0, 2, 0.)),
+        (
+            "-1234567",
+            decimal(-1_234_567, 0, -1_234_567.),
+            decimal(1_234_567, 0, 1_234_567.),
+        ),
+    ];
+    for (text, signed, turned) in texts {
+        for (letter, variation) in [('E', signed), ('W', turned)] {
+            let line = with_checksum(&format!("GPRMC,,A,,,,,{text},{text},,{text},{letter}"));
+            assert_eq!(exact(&line).decimals, [signed, signed, variation], "{line}");
+            let record = rmc(&line);
+            assert_eq!(record.speed, bits(signed), "{line}");
+            assert_eq!(record.course, bits(signed), "{line}");
+            assert_eq!(record.variation, bits(variation), "{line}");
+        }
+    }
+    assert_eq!(rmc("$GPRMC,,A,,,,,,,,-0,W*6C").variation, Some(0));
+}
+
+#[test]
+fn minutes_with_a_sign_count_against_the_degrees() {
+    // Degrees and minutes as N and E have them; S and W negate what came out.
+    let angles: [(u8, &str, i64, f64); 7] = [
+        (0, "-30", -30_000_000_000, -0.5),
+        (0, "-0", 0, 0.),
+        (0, "-0.000000001", -1, -(1e-9 / 60.)),
+        (1, "-60", 0, 0.),
+        (1, "-0.000000001", 59_999_999_999, 1. - 1e-9 / 60.),
+        (51, "-30.5", 3_029_500_000_000, 51. - 30.5 / 60.),
+        (
+            16,
+            "-999.999999999",
+            -39_999_999_999,
+            16. - 999.999999999 / 60.,
+        ),
+    ];
+    let coordinate = |count: i64, letter, degrees: f64| Coordinate {
+        minus: count < 0,
+        count: count.unsigned_abs(),
+        letter,
+        bits: degrees.to_bits(),
+    };
+    for (degrees, minutes, count, value) in angles {
+        for ([north, east], count, value) in
+            [(['N', 'E'], count, value), (['S', 'W'], -count, -value)]
+        {
+            let line = with_checksum(&format!(
+                "GPRMC,,A,{degrees:02}{minutes},{north},{degrees:03}{minutes},{east},,,,,"
+            ));
+            let both = [north, east].map(|letter| coordinate(count, letter, value));
+            assert_eq!(exact(&line).position, Some(both), "{line}");
+            let record = rmc(&line);
+            assert_eq!(record.latitude, Some(value.to_bits()), "{line}");
+            assert_eq!(record.longitude, Some(value.to_bits()), "{line}");
+        }
+    }
+}
+
+#[test]
+fn seconds_with_a_sign() {
+    let ours = |time: &str| {
+        let line = with_checksum(&format!("GPRMC,{time},A,,,,,,,,,"));
+        assert_eq!(refused(line.as_bytes()), Refusal::Syntax, "{line}");
+        expected(line.as_bytes()).answer
+    };
+    for time in ["0000-0", "0000-0.0", "0000-1", "0000-99", "2460-1"] {
+        assert_eq!(ours(time), Answer::Refused(Refusal::Syntax), "{time}");
+    }
+    // Number comes before the sign, and before the ranges.
+    for time in ["0000-1e1", "2460-1e1", "0000-1000", "0000--1"] {
+        assert_eq!(ours(time), Answer::Refused(Refusal::Number), "{time}");
+    }
+}
+
+#[test]
+fn pdop_with_a_sign_is_no_item() {
+    let expected = Gsa {
+        mode: 'A',
+        fix: 1,
+        satellites: vec![],
+        pdop: Some((-1f32).to_bits()),
+        hdop: short(0, 1),
+        vdop: short(0, 1),
+        system: Some(System::Gps),
+    };
+    let line = "$GPGSA,A,1,-1,0,0*02";
+    assert_eq!(answer(line), Answer::Gsa(expected));
+    let zero = decimal(0, 0, 0.);
+    assert_eq!(exact(line).decimals, [decimal(-1, 0, -1.), zero, zero]);
+
+    let mismatch = Refusal::SystemMismatch {
+        talker: System::Gps,
+        tail: System::Glonass,
+    };
+    assert_eq!(refused(b"$GPGSA,A,1,-1,0,0,2*1C"), mismatch);
+
+    // Satellites may stand before it.
+    let line = with_checksum("GPGSA,A,3,16,18,-3,-0,-2.20");
+    let record = gsa(&line);
+    assert_eq!(record.satellites, [16, 18]);
+    let dops = [
+        decimal(-3, 0, -3.),
+        decimal(0, 0, -0.),
+        decimal(-220, 2, -2.2),
+    ];
+    assert_eq!(exact(&line).decimals, dops);
+    assert_eq!([record.pdop, record.hdop, record.vdop], dops.map(bits));
+}
+
+/// The places of decimals, short ones first.
+const PLACES: [&str; 9] = [
+    "GPRMC,,A,,,,,?,,,,",
+    "GPRMC,,A,,,,,,?,,,",
+    "GPRMC,,A,,,,,,,,?,W",
+    "GPGSA,A,3,16,?,2.1,2.2",
+    "GPGSA,A,3,16,3.6,?,2.2",
+    "GPGSA,A,3,16,3.6,2.1,?",
+    "GPRMC,0000?,A,,,,,,,,,",
+    "GPRMC,,A,00?,N,0000,E,,,,,",
+    "GPRMC,,A,000,N,000?,E,,,,,",
+];
+
+#[test]
+fn what_is_no_sign_of_a_decimal() {
+    let is_number = |place: &str, text| {
+        let line = with_checksum(&place.replace('?', text));
+        expected(line.as_bytes()).answer == Answer::Refused(Refusal::Number)
+    };
+    for place in PLACES {
+        for text in [
+            "+1", "--1", "+-1", "-+1", "-", "-.5", "-5.", "1-1", "1-", "-1e1",
+        ] {
+            assert!(is_number(place, text), "{text} in {place}");
+        }
+    }
+    // The sign is no digit.
+    let (short, long) = PLACES.split_at(6);
+    for place in short {
+        assert!(!is_number(place, "-1234567") && !is_number(place, "-1.234567"));
+        assert!(is_number(place, "-12345678") && is_number(place, "-1.2345678"));
+    }
+    for place in long {
+        assert!(!is_number(place, "-999.999999999"), "{place}");
+        assert!(is_number(place, "-1000") && is_number(place, "-1.0000000000"));
+    }
 }
 
 // Readers of one type

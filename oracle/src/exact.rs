@@ -155,10 +155,12 @@ impl Coordinate {
         let degrees = f64::from_bits(self.bits);
         let count = negated_if(self.minus, self.count as f64);
         let is_negative = match self.count {
-            0 => is_turned(self.letter) && !self.minus,
+            0 => is_turned(self.letter),
             _ => self.minus,
         };
-        (degrees - count / 60e9).abs() < 1e-9 && degrees.is_sign_negative() == is_negative
+        (degrees - count / 60e9).abs() < 1e-9
+            && degrees.is_sign_negative() == is_negative
+            && !(self.minus && self.count == 0)
     }
 }
 

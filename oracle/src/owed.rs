@@ -48,9 +48,8 @@ fn rmc(mut data: Cursor) -> Result<(), Fault> {
     if !data.is_at_comma() {
         let (hour, minute) = (data.number(2)?, data.number(2)?);
         let seconds = data.filled(Limits::Long)?;
-        // Minus zero too: a sign comes behind Number and before the ranges.
-        in_range(!seconds.starts_with('-'))?;
         let whole = seconds.split('.').next().unwrap_or_default();
+        // No unsigned number has a minus: signed seconds are Syntax, minus zero too.
         let second: u16 = whole.parse().map_err(|_| Fault::Syntax)?;
         in_range(hour < 24 && minute < 60 && second < 60)?;
     }

@@ -142,7 +142,7 @@ mod wrong {
 
     /// A latitude that minutes below zero lead across the equator.
     #[test]
-    fn minutes_count_with_the_degrees() {
+    fn a_latitude_on_the_wrong_side() {
         let report = report(|line| {
             let mut words = linked(line);
             if words[0] == 1 && words[10] == 1 && words[12] == b'N'.into() {

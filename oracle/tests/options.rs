@@ -32,7 +32,7 @@ fn a_short_comparison() -> io::Result<()> {
     for part in [
         "100  short decimals, of 76543210",
         "100  negative short decimals, of 76543210",
-        "100  degrees and minutes below zero, of 29241840",
+        "100  degrees and signed minutes, of 29241840",
         "1000  generated",
     ] {
         assert!(printed.contains(part), "{printed}");

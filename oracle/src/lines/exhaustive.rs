@@ -13,8 +13,8 @@ const ASCII: u64 = 128;
 /// The most digits of a short decimal.
 const DIGITS: u32 = 7;
 
-/// How many texts are short decimals without a sign: of each count of digits, each number
-/// with a point behind any digit or with none.
+/// How many texts are short decimals without a sign: of each count of digits,
+/// each number with a point behind any digit or with none.
 const SHORT_DECIMALS: u64 = 76_543_210;
 
 /// All parts that are tried whole.
@@ -31,7 +31,7 @@ pub fn exhaustive_parts() -> Vec<Part> {
         single_bytes(),
         short_decimals("short decimals", ""),
         short_decimals("negative short decimals", "-"),
-        negative_minutes(),
+        signed_minutes(),
     ]
 }
 
@@ -177,8 +177,8 @@ fn short_decimals(name: &'static str, sign: &'static str) -> Part {
     })
 }
 
-/// All degrees to each side, with each of the minutes below zero.
-fn negative_minutes() -> Part {
+/// All degrees, to each side, with each of the minutes below zero.
+fn signed_minutes() -> Part {
     let minutes = minutes_below_zero();
     let degrees: Vec<(&str, String)> = ANGLES
         .iter()
@@ -187,22 +187,18 @@ fn negative_minutes() -> Part {
         })
         .collect();
     let count = (degrees.len() * minutes.len()) as u64;
-    Part::listed(
-        "degrees and minutes below zero",
-        count,
-        move |index, line| {
-            let index = index as usize;
-            let (body, degrees) = &degrees[index / minutes.len()];
-            at_the_mark(line, body, |line| {
-                line.extend_from_slice(degrees.as_bytes());
-                line.extend_from_slice(minutes[index % minutes.len()].as_bytes());
-            });
-        },
-    )
+    Part::listed("degrees and signed minutes", count, move |index, line| {
+        let index = index as usize;
+        let (body, degrees) = &degrees[index / minutes.len()];
+        at_the_mark(line, body, |line| {
+            line.extend_from_slice(degrees.as_bytes());
+            line.extend_from_slice(minutes[index % minutes.len()].as_bytes());
+        });
+    })
 }
 
 /// A minus sign and one to three digits, each of these alone and with decimals:
-/// of one to nine the least, the next, one between and the greatest.
+/// of each count up to nine the least, the next, one between and the greatest.
 fn minutes_below_zero() -> Vec<String> {
     let mut decimals = vec![String::new()];
     for width in 1..=9 {
@@ -212,11 +208,9 @@ fn minutes_below_zero() -> Vec<String> {
     let mut minutes = vec![];
     for width in 1..=3 {
         for whole in 0..10u32.pow(width as u32) {
-            minutes.extend(
-                decimals
-                    .iter()
-                    .map(|decimals| format!("-{whole:0width$}{decimals}")),
-            );
+            for decimals in &decimals {
+                minutes.push(format!("-{whole:0width$}{decimals}"));
+            }
         }
     }
     minutes
@@ -361,7 +355,7 @@ mod tests {
     #[test]
     fn all_degrees_come_with_minutes_below_zero() {
         let mut batch = Batch::default();
-        negative_minutes().fill(0..50_000, &mut batch);
+        signed_minutes().fill(0..50_000, &mut batch);
         let marks = ANGLES.map(|(body, _, _)| body);
         let mut met = HashSet::new();
         for line in batch.lines() {

@@ -7,18 +7,19 @@ use mathlib.Core.Path.{_≡_, refl, ap, subst}
 use mathlib.Core.Bool.{Bool, true, false, cond, _&&_}
 use mathlib.Core.List.{List, [], _∷_}
 use mathlib.Core.Option.{Option, none, some, Option·map}
-use lib.ListN.{length}
+use lib.ListN.{length, drop}
 use lib.Dec.{leb, ltb, eqb}
 use borrow.Author.Tests.{leb-true, ltb-true}
 use Rattle.text.specs.Bytes.{byte}
 use Rattle.text.specs.Reader.{got}
 use Rattle.text.specs.Number.{leadingDigits, afterDigits, valueFrom, onlyDigits}
-use Rattle.decimal.specs.Decimal.{Limits, Decimal, withoutSign, negative, text, fromComma, fraction, inLimits, within, digits, plain, orNumber, decimal}
+use Rattle.decimal.specs.Decimal.{Limits, Decimal, withoutSign, negative, text, fromComma, fraction, inLimits, within, digits, plain, orNumber, placeOf, decimal}
 use Rattle.text.specs.Placed.{Reads}
 use Rattle.text.proofs.Places.{took}
-use Rattle.decimal.specs.Answer.{decimalAt}
-use Rattle.decimal.specs.declared.DecimalAt.{DecimalAt}
-use Rattle.decimal.specs.declared.DecimalAt.the-variants.{Is}
+use Rattle.decimal.specs.Code.{unsignedPlace}
+use Rattle.decimal.specs.Answer.{unsignedAt}
+use Rattle.decimal.specs.declared.UnsignedAt.{UnsignedAt}
+use Rattle.decimal.specs.declared.UnsignedAt.the-variants.{Is}
 use Rattle.decimal.proofs.Power.{under, sum-power}
 use Rattle.decimal.proofs.Decimals.{value-lt}
 
@@ -102,22 +103,27 @@ plain-bounded lim (b ∷ t) {d} e = by (eqb b (byte "-")) e
     by true e = behind (digits lim t) refl e
     by false e = digits-bounded lim (b ∷ t) e
 
--- a decimal that a place holds is within the limits
-pub bounded : (lim : Limits) (l : List ℕ) {d : Decimal} {m : List ℕ} → decimal lim l ≡ got (some d) m → Bounded lim d
-unfolding decimal
-bounded lim l {d} {m} e = by (eqb (length (text l)) 0) e
+-- a decimal that a place holds is within the limits, if each that `read` reads is
+held-by : (lim : Limits) (read : List ℕ → Option Decimal) → ((t : List ℕ) (d : Decimal) → read t ≡ some d → Bounded lim d)
+    → (l : List ℕ) {d : Decimal} {m : List ℕ} → placeOf read l ≡ got (some d) m → Bounded lim d
+held-by lim read h l {d} {m} e = by (eqb (length (text l)) 0) e
   where
-    plainly : (o : Option Decimal) → plain lim (text l) ≡ o → orNumber o (fromComma l) ≡ got (some d) m → Bounded lim d
+    plainly : (o : Option Decimal) → read (text l) ≡ o → orNumber o (fromComma l) ≡ got (some d) m → Bounded lim d
     plainly none f e = let y : _≡_ {A = ℕ} 0 1 = cc in absurd (omega arith)
     plainly (some d′) f e =
-        let h : d′ ≡ d = cc in
-        subst (λ (x : Decimal). Bounded lim x) h (plain-bounded lim (text l) f)
+        let g : d′ ≡ d = cc in
+        subst (λ (x : Decimal). Bounded lim x) g (h (text l) d′ f)
 
-    by : (t : Bool) → cond t (got none (fromComma l)) (orNumber (plain lim (text l)) (fromComma l)) ≡ got (some d) m → Bounded lim d
+    by : (t : Bool) → cond t (got none (fromComma l)) (orNumber (read (text l)) (fromComma l)) ≡ got (some d) m → Bounded lim d
     by true e = let y : _≡_ {A = ℕ} 0 1 = cc in absurd (omega arith)
-    by false e = plainly (plain lim (text l)) refl e
+    by false e = plainly (read (text l)) refl e
 
--- the same of the code's answer
-pub held : {s : List ℕ} {at : ℕ} (lim : Limits) {r : DecimalAt} {m : Bool} {n k p : ℕ} → Reads s at (decimal lim) (decimalAt r)
-    → r ≡ Is m n k p → Bounded lim (record { minus = m; size = n; decimals = k })
-held lim t e = bounded lim _ (took t (ap decimalAt e) .reads)
+pub bounded : (lim : Limits) (l : List ℕ) {d : Decimal} {m : List ℕ} → decimal lim l ≡ got (some d) m → Bounded lim d
+unfolding decimal
+bounded lim l e = held-by lim (plain lim) (λ t d. plain-bounded lim t) l e
+
+-- the same of the code's digits
+pub held : {s : List ℕ} {at : ℕ} (lim : Limits) {r : UnsignedAt} {n k p : ℕ} → Reads s at (unsignedPlace lim) (unsignedAt r) → r ≡ Is n k p
+    → Bounded lim (withoutSign n k)
+unfolding unsignedPlace
+held {s} {at} lim t e = held-by lim (digits lim) (λ t d. digits-bounded lim t) (drop at s) (took t (ap unsignedAt e) .reads)

@@ -14,7 +14,7 @@ use Rattle.text.specs.Reader.{Parse, miss, refuse, got, char, Number}
 use Rattle.text.specs.Number.{isDigit, leadingDigits, afterDigits, valueFrom, onlyDigits}
 use Rattle.text.proofs.Fixed.{digit-top}
 use Rattle.decimal.specs.Decimal.{Limits, Decimal, withoutSign, text, fromComma, fraction, inLimits, within, orNumber}
-use Rattle.decimal.specs.Code.{Run, run, atEnd, unsigned}
+use Rattle.decimal.specs.Code.{Run, run, atEnd, unsignedPlace}
 use Rattle.decimal.proofs.Power.{under, sum-power}
 use Rattle.decimal.proofs.Runs.{power-more}
 
@@ -70,12 +70,12 @@ more-text (b ∷ l) e z = let h : length (b ∷ text l) ≡ 0 = sym (ap (λ (t :
 abbrev decided : Limits → List ℕ → Option (List ℕ) → List ℕ → Parse (Option Decimal)
 decided lim ds f p = orNumber (cond (ltb 0 (length ds)) (within lim ds f) none) p
 
-pub absent : (lim : Limits) (l : List ℕ) → atEnd l ≡ true → unsigned lim l ≡ got none l
-unfolding unsigned
+pub absent : (lim : Limits) (l : List ℕ) → atEnd l ≡ true → unsignedPlace lim l ≡ got none l
+unfolding unsignedPlace
 absent lim l e = rw (end-text l e, end-past l e)
 
-present : (lim : Limits) (l : List ℕ) → atEnd l ≡ false → unsigned lim l ≡ decided lim (leadingDigits l) (fraction (text (afterDigits l))) (fromComma (afterDigits l))
-unfolding unsigned
+present : (lim : Limits) (l : List ℕ) → atEnd l ≡ false → unsignedPlace lim l ≡ decided lim (leadingDigits l) (fraction (text (afterDigits l))) (fromComma (afterDigits l))
+unfolding unsignedPlace
 present lim l e =
     ap (λ (t : Bool). cond t (got none (fromComma l)) (decided lim (leadingDigits (text l)) (fraction (afterDigits (text l))) (fromComma l))) (ne-eqb _ _ (more-text l e))
     ∙ ap (λ (ds : List ℕ). decided lim ds (fraction (afterDigits (text l))) (fromComma l)) (text-digits l)
@@ -184,7 +184,7 @@ room-after v m n all h k j =
     omega arith
 
 -- the cases of a place where a text stands
-pub over : (lim : Limits) (l : List ℕ) → atEnd l ≡ false → lim .before < length (leadingDigits l) → unsigned lim l ≡ refuse Number
+pub over : (lim : Limits) (l : List ℕ) → atEnd l ≡ false → lim .before < length (leadingDigits l) → unsignedPlace lim l ≡ refuse Number
 over lim l h k = present lim l h ∙ by (fraction (text (afterDigits l))) refl
   where
     by : (f : Option (List ℕ)) → fraction (text (afterDigits l)) ≡ f → decided lim (leadingDigits l) (fraction (text (afterDigits l))) (fromComma (afterDigits l)) ≡ refuse Number
@@ -211,16 +211,16 @@ no-point (b ∷ k) h e =
     by false f e = refl
 
 module _ (lim : Limits) (l m : List ℕ) (h : atEnd l ≡ false) {v n : ℕ} (r : Ran (lim .before) 0 l v n m) where
-  here-decided : unsigned lim l ≡ decided lim (leadingDigits l) (fraction (text m)) (fromComma m)
+  here-decided : unsignedPlace lim l ≡ decided lim (leadingDigits l) (fraction (text m)) (fromComma m)
   here-decided = present lim l h ∙ ap (λ (k : List ℕ). decided lim (leadingDigits l) (fraction (text k)) (fromComma k)) (sym (r .rest-is))
 
-  pub case-zero : n ≡ 0 → unsigned lim l ≡ refuse Number
+  pub case-zero : n ≡ 0 → unsignedPlace lim l ≡ refuse Number
   case-zero e = here-decided ∙ no-front lim (leadingDigits l) (fraction (text m)) (fromComma m) (sym (r .count-is) ∙ e)
 
-  pub case-other : atEnd m ≡ false → char 46 m ≡ miss → unsigned lim l ≡ refuse Number
+  pub case-other : atEnd m ≡ false → char 46 m ≡ miss → unsignedPlace lim l ≡ refuse Number
   case-other e f = here-decided ∙ no-back lim (leadingDigits l) (fraction (text m)) (fromComma m) (no-point m e f)
 
-  pub case-whole : (n ≡ 0 → ⊥) → lim .before ≤ lim .all → atEnd m ≡ true → unsigned lim l ≡ got (some (withoutSign v 0)) m
+  pub case-whole : (n ≡ 0 → ⊥) → lim .before ≤ lim .all → atEnd m ≡ true → unsignedPlace lim l ≡ got (some (withoutSign v 0)) m
   case-whole z k e =
       let c = r .count-is in
       let w = r .few in
@@ -231,7 +231,7 @@ module _ (lim : Limits) (l m : List ℕ) (h : atEnd l ≡ false) {v n : ℕ} (r 
 
   module _ (k : List ℕ) {u : Unit {0}} (p : char 46 m ≡ got u k) where
     -- after the point
-    there-decided : unsigned lim l ≡ decided lim (leadingDigits l) (cond (ltb 0 (length (leadingDigits k)) && eqb (length (text (afterDigits k))) 0) (some (leadingDigits k)) none) (fromComma (afterDigits k))
+    there-decided : unsignedPlace lim l ≡ decided lim (leadingDigits l) (cond (ltb 0 (length (leadingDigits k)) && eqb (length (text (afterDigits k))) 0) (some (leadingDigits k)) none) (fromComma (afterDigits k))
     there-decided =
         here-decided
         ∙ ap (λ (x : List ℕ). decided lim (leadingDigits l) (fraction (text x)) (fromComma x)) (point m k p)
@@ -239,7 +239,7 @@ module _ (lim : Limits) (l m : List ℕ) (h : atEnd l ≡ false) {v n : ℕ} (r 
         ∙ ap (λ (x : List ℕ). decided lim (leadingDigits l) (cond (ltb 0 (length (leadingDigits k)) && eqb (length x) 0) (some (leadingDigits k)) none) (fromComma k)) (text-after k)
         ∙ ap (λ (x : List ℕ). decided lim (leadingDigits l) (cond (ltb 0 (length (leadingDigits k)) && eqb (length (text (afterDigits k))) 0) (some (leadingDigits k)) none) x) (sym (past-after k))
 
-    pub case-long : (lim .after < length (leadingDigits k)) ⊎ (lim .all < n + length (leadingDigits k)) → unsigned lim l ≡ refuse Number
+    pub case-long : (lim .after < length (leadingDigits k)) ⊎ (lim .all < n + length (leadingDigits k)) → unsignedPlace lim l ≡ refuse Number
     case-long o = there-decided ∙ by (ltb 0 (length (leadingDigits k)) && eqb (length (text (afterDigits k))) 0)
       where
         no : (lim .after < length (leadingDigits k)) ⊎ (lim .all < n + length (leadingDigits k)) → length (leadingDigits k) ≤ lim .after → length (leadingDigits l) + length (leadingDigits k) ≤ lim .all → ⊥
@@ -251,10 +251,10 @@ module _ (lim : Limits) (l m : List ℕ) (h : atEnd l ≡ false) {v n : ℕ} (r 
         by false = no-back lim (leadingDigits l) _ _ refl
 
     module _ {most w j : ℕ} {e : List ℕ} (q : Ran most v k w j e) where
-      pub case-no-digits : j ≡ 0 → unsigned lim l ≡ refuse Number
+      pub case-no-digits : j ≡ 0 → unsignedPlace lim l ≡ refuse Number
       case-no-digits z = there-decided ∙ no-back lim (leadingDigits l) _ _ (ap (λ (i : ℕ). cond (ltb 0 i && eqb (length (text (afterDigits k))) 0) (some (leadingDigits k)) none) (sym (q .count-is) ∙ z))
 
-      pub case-junk : atEnd e ≡ false → unsigned lim l ≡ refuse Number
+      pub case-junk : atEnd e ≡ false → unsignedPlace lim l ≡ refuse Number
       case-junk z =
           let g : atEnd (afterDigits k) ≡ false = ap atEnd (sym (q .rest-is)) ∙ z in
           there-decided ∙ ap (λ (t : Bool). decided lim (leadingDigits l) (cond (ltb 0 (length (leadingDigits k)) && t) (some (leadingDigits k)) none) (fromComma (afterDigits k))) (ne-eqb _ _ (more-text (afterDigits k) g))
@@ -264,7 +264,7 @@ module _ (lim : Limits) (l m : List ℕ) (h : atEnd l ≡ false) {v n : ℕ} (r 
           by true = no-back lim (leadingDigits l) _ _ refl
           by false = no-back lim (leadingDigits l) _ _ refl
 
-      pub case-good : (n ≡ 0 → ⊥) → (j ≡ 0 → ⊥) → most ≤ lim .after → n + most ≤ lim .all → atEnd e ≡ true → unsigned lim l ≡ got (some (withoutSign w j)) e
+      pub case-good : (n ≡ 0 → ⊥) → (j ≡ 0 → ⊥) → most ≤ lim .after → n + most ≤ lim .all → atEnd e ≡ true → unsignedPlace lim l ≡ got (some (withoutSign w j)) e
       case-good z z′ a b f =
           let c = r .count-is in
           let c′ = q .count-is in

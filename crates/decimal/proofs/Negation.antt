@@ -1,5 +1,5 @@
--- The negation of a signed number that is no extreme of its width is its negation in the code: 0 minus it fits, and comes back.
--- Assumes nothing.
+-- The negation of a signed number that is no extreme of its width is its negation in the code: 0 minus it fits, and comes back. And the
+-- sum of two sizes, one of them with a sign, is no larger than both. Assumes nothing.
 use Prim.Native.Nat.{ℕ, zero, suc, _≤_, _<_, _+_, _-_, _^_}
 use native.Mathlib.Nat.{zero-add, zero-lt-suc, le-suc, le-refl, lt-of-le-of-lt}
 use native.Mathlib.Omega.{arith}
@@ -56,7 +56,7 @@ mag-size (negsuc n) = le-suc n
 pub sized64 : (z : ℤ) → natAbs z < 2 ^ 63 → SFits w64 z
 sized64 z h = record { sfits = lt-of-le-of-lt (mag-size z) h }
 
--- a number and another, which counts against it where it has a sign, are no more than both
+-- what is counted on from a, or back
 pub sum-size : (a b : ℕ) (minus : Bool) → natAbs (pos a +ℤ signed b minus) ≤ a + b
 sum-size a b false = le-refl (a + b)
 sum-size a zero true = omega arith

@@ -2,7 +2,7 @@
 -- so that the text goes on behind it, and no digit, so that without one the text is as it was. Assumes nothing.
 use Prim.Native.Nat.{ℕ}
 use native.Mathlib.Omega.{arith}
-use mathlib.Core.Path.{_≡_, refl, ap, sym, _∙_, subst}
+use mathlib.Core.Path.{_≡_, refl, ap, _∙_}
 use mathlib.Core.Bool.{Bool, true, false, cond}
 use mathlib.Core.List.{List, [], _∷_}
 use mathlib.Core.Option.{Option, none, some, Option·map}
@@ -14,11 +14,11 @@ use Rattle.text.specs.Reader.{Parse, miss, refuse, got, Reader, Number, after, 
 use Rattle.text.specs.Placed.{Placed, refused, upto, Reads}
 use Rattle.text.proofs.Places.{a-read, bad-read, alike, go, fail}
 use Rattle.decimal.specs.Decimal.{Limits, Decimal, withoutSign, negative, text, fromComma, digits, plain, orNumber, decimal}
-use Rattle.decimal.specs.Code.{sign, unsigned, withSign}
+use Rattle.decimal.specs.Code.{minusSign, unsignedPlace, withSign}
 
 -- a minus sign is the byte
-pub sign-there : (l m : List ℕ) {u : Unit {0}} → char (byte "-") l ≡ got u m → sign l ≡ got true m
-unfolding char sign
+pub sign-there : (l m : List ℕ) {u : Unit {0}} → char (byte "-") l ≡ got u m → minusSign l ≡ got true m
+unfolding char minusSign
 sign-there [] m e = let y : _≡_ {A = ℕ} 0 1 = cc in absurd (omega arith)
 sign-there (b ∷ l) m {u} e = by (eqb b (byte "-")) e
   where
@@ -26,8 +26,8 @@ sign-there (b ∷ l) m {u} e = by (eqb b (byte "-")) e
     by true e = let h : l ≡ m = cc in ap (got true) h
     by false e = let y : _≡_ {A = ℕ} 0 1 = cc in absurd (omega arith)
 
-pub sign-not : (l : List ℕ) → char (byte "-") l ≡ miss → sign l ≡ got false l
-unfolding char sign
+pub sign-not : (l : List ℕ) → char (byte "-") l ≡ miss → minusSign l ≡ got false l
+unfolding char minusSign
 sign-not [] e = refl
 sign-not (b ∷ l) e = by (eqb b (byte "-")) e
   where
@@ -36,7 +36,7 @@ sign-not (b ∷ l) e = by (eqb b (byte "-")) e
     by false e = refl
 
 abbrev pub inOrder : Limits → Reader (Option Decimal)
-inOrder lim = sign >>= λ minus. unsigned lim >>= withSign minus
+inOrder lim = minusSign >>= λ minus. unsignedPlace lim >>= withSign minus
 
 -- no sign changes nothing
 unsigned-is : (r : Parse (Option Decimal)) → r ≡ after r (withSign false)
@@ -52,52 +52,51 @@ signed-is none l = refl
 signed-is (some d) l = refl
 
 module _ (lim : Limits) where
-  -- behind a minus sign
-  abbrev by-text : List ℕ → Bool → Parse (Option Decimal)
-  by-text l t = cond t (got none (fromComma l)) (orNumber (digits lim (text l)) (fromComma l))
+  -- a place with this text, and what is left behind it
+  abbrev holding : (List ℕ → Option Decimal) → List ℕ → List ℕ → Parse (Option Decimal)
+  holding read t m = cond (eqb (length t) 0) (got none m) (orNumber (read t) m)
 
   empty : (t : List ℕ) → eqb (length t) 0 ≡ true → digits lim t ≡ none
   empty [] e = refl
   empty (b ∷ t) e = let h = eqb-true (length (b ∷ t)) 0 e in absurd (omega arith)
 
-  behind : (l : List ℕ) (t : Bool) → eqb (length (text l)) 0 ≡ t
-      → orNumber (Option·map negative (digits lim (text l))) (fromComma l) ≡ after (by-text l t) (withSign true)
+  -- behind a minus sign an empty text is no decimal
+  behind : (t m : List ℕ) (u : Bool) → eqb (length t) 0 ≡ u
+      → orNumber (Option·map negative (digits lim t)) m ≡ after (cond u (got none m) (orNumber (digits lim t) m)) (withSign true)
   unfolding withSign
-  behind l true e = ap (λ (o : Option Decimal). orNumber (Option·map negative o) (fromComma l)) (empty (text l) e)
-  behind l false e = signed-is (digits lim (text l)) (fromComma l)
+  behind t m true e = ap (λ (o : Option Decimal). orNumber (Option·map negative o) m) (empty t e)
+  behind t m false e = signed-is (digits lim t) m
 
-  minus-first : (l : List ℕ) → decimal lim (byte "-" ∷ l) ≡ after (unsigned lim l) (withSign true)
-  unfolding decimal unsigned
+  minus-first : (l : List ℕ) → decimal lim (byte "-" ∷ l) ≡ after (unsignedPlace lim l) (withSign true)
+  unfolding decimal unsignedPlace
   minus-first l =
-      ap (λ (t : Bool). cond t (got none (fromComma l)) (orNumber (Option·map negative (digits lim (text l))) (fromComma l))) (ne-eqb (length (byte "-" ∷ text l)) 0 (λ e. omega arith))
-      ∙ behind l (eqb (length (text l)) 0) refl
+      ap (λ (u : Bool). cond u (got none (fromComma l)) (orNumber (Option·map negative (digits lim (text l))) (fromComma l))) (ne-eqb (length (byte "-" ∷ text l)) 0 (λ e. omega arith))
+      ∙ behind (text l) (fromComma l) (eqb (length (text l)) 0) refl
 
-  -- a text that does not begin with one
-  bare : (b : ℕ) (l : List ℕ) (t : Bool) → eqb b (byte "-") ≡ false
-      → cond (eqb (length (cond t [] (b ∷ text l))) 0) (got none (cond t (b ∷ l) (fromComma l))) (orNumber (plain lim (cond t [] (b ∷ text l))) (cond t (b ∷ l) (fromComma l)))
-      ≡ cond (eqb (length (cond t [] (b ∷ text l))) 0) (got none (cond t (b ∷ l) (fromComma l))) (orNumber (digits lim (cond t [] (b ∷ text l))) (cond t (b ∷ l) (fromComma l)))
-  bare b l true e = refl
-  bare b l false e =
-      ap (λ (u : Bool). cond (eqb (length (b ∷ text l)) 0) (got none (fromComma l)) (orNumber (cond u (Option·map negative (digits lim (text l))) (digits lim (b ∷ text l))) (fromComma l))) e
+  -- a text that does not begin with one, as it ends at once or not
+  bare : (b : ℕ) (t m : List ℕ) (u : Bool) → eqb b (byte "-") ≡ false → holding (plain lim) (cond u [] (b ∷ t)) m ≡ holding (digits lim) (cond u [] (b ∷ t)) m
+  bare b t m true e = refl
+  bare b t m false e =
+      ap (λ (u : Bool). cond (eqb (length (b ∷ t)) 0) (got none m) (orNumber (cond u (Option·map negative (digits lim t)) (digits lim (b ∷ t))) m)) e
 
-  no-minus : (b : ℕ) (l : List ℕ) → eqb b (byte "-") ≡ false → decimal lim (b ∷ l) ≡ unsigned lim (b ∷ l)
-  unfolding decimal unsigned
-  no-minus b l e = bare b l (eqb b (byte ",")) e
+  no-minus : (b : ℕ) (l : List ℕ) → eqb b (byte "-") ≡ false → decimal lim (b ∷ l) ≡ unsignedPlace lim (b ∷ l)
+  unfolding decimal unsignedPlace
+  no-minus b l e = bare b (text l) (fromComma (b ∷ l)) (eqb b (byte ",")) e
 
   pub in-order : (l : List ℕ) → decimal lim l ≡ inOrder lim l
-  unfolding _>>=_ sign decimal unsigned withSign
+  unfolding _>>=_ minusSign decimal unsignedPlace withSign
   in-order [] = refl
   in-order (b ∷ l) = by (eqb b (byte "-")) refl
     where
       by : (t : Bool) → eqb b (byte "-") ≡ t
-          → decimal lim (b ∷ l) ≡ after (cond t (got true l) (got false (b ∷ l))) (λ minus m. after (unsigned lim m) (withSign minus))
+          → decimal lim (b ∷ l) ≡ after (cond t (got true l) (got false (b ∷ l))) (λ minus m. after (unsignedPlace lim m) (withSign minus))
       by true e = ap (λ (x : ℕ). decimal lim (x ∷ l)) (eqb-true b (byte "-") e) ∙ minus-first l
-      by false e = no-minus b l e ∙ unsigned-is (unsigned lim (b ∷ l))
+      by false e = no-minus b l e ∙ unsigned-is (unsignedPlace lim (b ∷ l))
 
 -- what the code finds: the sign, if there is one, up to i, and then the digits
-module _ {s : List ℕ} {at : ℕ} (lim : Limits) {minus : Bool} {i : ℕ} (t : Reads s at sign (upto minus i)) {r : Placed (Option Decimal)} (u : Reads s i (unsigned lim) r) where
-  as-read : {b : Placed (Option Decimal)} → Reads s i (unsigned lim >>= withSign minus) b → Reads s at (decimal lim) b
-  as-read w = alike (go (λ m. unsigned lim >>= withSign m) t refl w) (in-order lim (drop at s))
+module _ {s : List ℕ} {at : ℕ} (lim : Limits) {minus : Bool} {i : ℕ} (t : Reads s at minusSign (upto minus i)) {r : Placed (Option Decimal)} (u : Reads s i (unsignedPlace lim) r) where
+  as-read : {b : Placed (Option Decimal)} → Reads s i (unsignedPlace lim >>= withSign minus) b → Reads s at (decimal lim) b
+  as-read w = alike (go (λ m. unsignedPlace lim >>= withSign m) t refl w) (in-order lim (drop at s))
 
   pub sign-alone : {p : ℕ} → r ≡ upto none p → minus ≡ true → Reads s at (decimal lim) (refused Number)
   unfolding withSign

@@ -11,8 +11,6 @@ use Rattle.decimal.specs.declared.Ran.the-variants.{Over, Is as ARun}
 use Rattle.decimal.specs.declared.SignAt.{SignAt}
 use Rattle.decimal.specs.declared.UnsignedAt.{UnsignedAt}
 use Rattle.decimal.specs.declared.UnsignedAt.the-variants.{Absent as NoDigits, Is as SomeDigits, Number as NotDigits}
-use Rattle.decimal.specs.declared.DecimalAt.{DecimalAt}
-use Rattle.decimal.specs.declared.DecimalAt.the-variants.{Absent as NoDecimal, Is as ADecimal, Number as NotDecimal}
 use Rattle.decimal.specs.declared.ShortDecimal.{ShortDecimal}
 use Rattle.decimal.specs.declared.ShortAt.{ShortAt}
 use Rattle.decimal.specs.declared.ShortAt.the-variants.{Absent as NoShort, Is as AShort, Number as NotShort}
@@ -31,11 +29,6 @@ abbrev pub unsignedAt : UnsignedAt → Placed (Option Decimal)
 unsignedAt NotDigits = refused Number
 unsignedAt (NoDigits p) = upto none p
 unsignedAt (SomeDigits n k p) = upto (some (withoutSign n k)) p
-
-abbrev pub decimalAt : DecimalAt → Placed (Option Decimal)
-decimalAt NotDecimal = refused Number
-decimalAt (NoDecimal p) = upto none p
-decimalAt (ADecimal m n k p) = upto (some (record { minus = m; size = n; decimals = k })) p
 
 abbrev pub aShort : ShortDecimal → Short
 aShort d = record { whole = d .whole; decimals = d .decimals; value = d .value }

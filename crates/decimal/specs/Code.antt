@@ -8,7 +8,7 @@ use lib.Dec.{eqb, leb}
 use Rattle.text.specs.Bytes.{byte}
 use Rattle.text.specs.Reader.{refuse, got, Reader, Number}
 use Rattle.text.specs.Number.{leadingDigits, afterDigits, valueFrom}
-use Rattle.decimal.specs.Decimal.{Limits, Decimal, negative, text, fromComma, digits, orNumber}
+use Rattle.decimal.specs.Decimal.{Limits, Decimal, negative, digits, placeOf}
 
 pub record Run : Type 0 where
   pub value : ℕ
@@ -27,13 +27,13 @@ atEnd [] = true
 atEnd (b ∷ l) = eqb b (byte ",")
 
 -- a minus sign, if one stands there
-unfoldable pub sign : Reader Bool
-sign [] = got false []
-sign (b ∷ l) = cond (eqb b (byte "-")) (got true l) (got false (b ∷ l))
+unfoldable pub minusSign : Reader Bool
+minusSign [] = got false []
+minusSign (b ∷ l) = cond (eqb b (byte "-")) (got true l) (got false (b ∷ l))
 
 -- a place without a sign
-unfoldable pub unsigned : Limits → Reader (Option Decimal)
-unsigned lim l = cond (eqb (length (text l)) 0) (got none (fromComma l)) (orNumber (digits lim (text l)) (fromComma l))
+unfoldable pub unsignedPlace : Limits → Reader (Option Decimal)
+unsignedPlace lim l = placeOf (digits lim) l
 
 -- and with it: a sign alone is no decimal
 unfoldable pub withSign : Bool → Option Decimal → Reader (Option Decimal)

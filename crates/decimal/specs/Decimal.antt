@@ -76,6 +76,10 @@ abbrev pub orNumber : Option Decimal → List ℕ → Parse (Option Decimal)
 orNumber none l = refuse Number
 orNumber (some d) l = got (some d) l
 
--- a decimal place: absent where the text is empty, the refusal Number where it is no plain decimal within the limits
+-- what a place holds, where `read` reads its text: absent where that is empty, the refusal Number where it means nothing
+abbrev pub placeOf : (List ℕ → Option Decimal) → Reader (Option Decimal)
+placeOf read l = cond (eqb (length (text l)) 0) (got none (fromComma l)) (orNumber (read (text l)) (fromComma l))
+
+-- a decimal place
 unfoldable pub decimal : Limits → Reader (Option Decimal)
-decimal lim l = cond (eqb (length (text l)) 0) (got none (fromComma l)) (orNumber (plain lim (text l)) (fromComma l))
+decimal lim l = placeOf (plain lim) l

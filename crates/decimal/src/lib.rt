@@ -5,11 +5,11 @@ ghost use Prim.Native.Nat.{_+_, _*_, _^_, _≤_, _<_, min};
 ghost use lib.ListN.{drop};
 ghost use lib.Ieee.{binary32, binary64, round};
 ghost use Rattle.text.specs.Placed.{Reads};
-ghost use Rattle.decimal.specs.Decimal.{decimal, limits};
-ghost use Rattle.decimal.specs.Code.{run, atEnd, sign, unsigned};
+ghost use Rattle.decimal.specs.Decimal.{limits};
+ghost use Rattle.decimal.specs.Code.{run, atEnd, minusSign, unsignedPlace};
 ghost use Rattle.decimal.specs.Places.{signed, shortDecimal, longDecimal};
 ghost use Rattle.decimal.specs.Bits.{bitsOf};
-ghost use Rattle.decimal.specs.Answer.{ran, unsignedAt, signAt, decimalAt, shortAt, longAt};
+ghost use Rattle.decimal.specs.Answer.{ran, unsignedAt, signAt, shortAt, longAt};
 use text::Next;
 
 fn wide(x: u32) -> u64
@@ -103,9 +103,9 @@ pub enum UnsignedAt {
 }
 
 // The digits of a decimal place with its limits: the most digits in all, before the point and after it.
-fn unsigned(s: &[u8], at: usize, all: u32, before: u32, after: u32) -> UnsignedAt
+fn unsigned_place(s: &[u8], at: usize, all: u32, before: u32, after: u32) -> UnsignedAt
     requires { ⌜ (before ≤ all) × (all ≤ 19) ⌝ }
-    ensures { λ r. ⌜ Reads (now (s .entry)) at (unsigned (limits all before after)) (unsignedAt r) × (now (s .exit) ≡ now (s .entry)) ⌝ }
+    ensures { λ r. ⌜ Reads (now (s .entry)) at (unsignedPlace (limits all before after)) (unsignedAt r) × (now (s .exit) ≡ now (s .entry)) ⌝ }
 {
     if ends(s, at) {
         return UnsignedAt::Absent(at);
@@ -141,8 +141,8 @@ pub struct SignAt {
     pub at: usize,
 }
 
-fn sign(s: &[u8], at: usize) -> SignAt
-    ensures { λ r. ⌜ Reads (now (s .entry)) at sign (signAt r) × (now (s .exit) ≡ now (s .entry)) ⌝ }
+fn minus_sign(s: &[u8], at: usize) -> SignAt
+    ensures { λ r. ⌜ Reads (now (s .entry)) at minusSign (signAt r) × (now (s .exit) ≡ now (s .entry)) ⌝ }
 {
     match text::byte(s, at, b'-') {
         Next::No => SignAt {
@@ -150,31 +150,6 @@ fn sign(s: &[u8], at: usize) -> SignAt
             at: at,
         },
         Next::At(p) => SignAt { minus: true, at: p },
-    }
-}
-
-// A decimal place: absent, the sign, the digits as one number and their count of decimals, or the refusal Number.
-pub enum DecimalAt {
-    Absent(usize),
-    Is(bool, u64, u32, usize),
-    Number,
-}
-
-// A decimal place with its limits. A minus sign may stand before the digits, and not by itself.
-fn decimal(s: &[u8], at: usize, all: u32, before: u32, after: u32) -> DecimalAt
-    requires { ⌜ (before ≤ all) × (all ≤ 19) ⌝ }
-    ensures { λ r. ⌜ Reads (now (s .entry)) at (decimal (limits all before after)) (decimalAt r) × (now (s .exit) ≡ now (s .entry)) ⌝ }
-{
-    let first = sign(s, at);
-    match unsigned(s, first.at, all, before, after) {
-        UnsignedAt::Absent(p) => {
-            if first.minus {
-                return DecimalAt::Number;
-            }
-            DecimalAt::Absent(p)
-        }
-        UnsignedAt::Is(n, k, p) => DecimalAt::Is(first.minus, n, k, p),
-        UnsignedAt::Number => DecimalAt::Number,
     }
 }
 
@@ -210,16 +185,22 @@ fn whole_of(minus: bool, size: u32) -> i32
     if minus { -whole } else { whole }
 }
 
-// A short decimal place: speed, course, variation, DOP.
+// A short decimal place: speed, course, variation, DOP. A sign stands before digits, and not by itself.
 pub fn short_decimal(s: &[u8], at: usize) -> ShortAt
     ensures { λ r. ⌜ Reads (now (s .entry)) at shortDecimal (shortAt r) × (now (s .exit) ≡ now (s .entry)) ⌝ }
 {
-    match decimal(s, at, SHORT, SHORT, SHORT) {
-        DecimalAt::Absent(p) => ShortAt::Absent(p),
-        DecimalAt::Is(minus, n, k, p) => {
+    let first = minus_sign(s, at);
+    match unsigned_place(s, first.at, SHORT, SHORT, SHORT) {
+        UnsignedAt::Absent(p) => {
+            if first.minus {
+                return ShortAt::Number;
+            }
+            ShortAt::Absent(p)
+        }
+        UnsignedAt::Is(n, k, p) => {
             let size = n as u32;
-            let value = nearest_f32(minus, size, k);
-            let whole = whole_of(minus, size);
+            let value = nearest_f32(first.minus, size, k);
+            let whole = whole_of(first.minus, size);
             ShortAt::Is(
                 ShortDecimal {
                     whole: whole,
@@ -229,7 +210,7 @@ pub fn short_decimal(s: &[u8], at: usize) -> ShortAt
                 p,
             )
         }
-        DecimalAt::Number => ShortAt::Number,
+        UnsignedAt::Number => ShortAt::Number,
     }
 }
 
@@ -258,18 +239,24 @@ fn nearest_f64(minus: bool, billionths: u64) -> f64
     if minus { -value } else { value }
 }
 
-// A long decimal place: minutes of arc, seconds.
+// A long decimal place: minutes of arc, seconds; a sign as above.
 pub fn long_decimal(s: &[u8], at: usize) -> LongAt
     ensures { λ r. ⌜ Reads (now (s .entry)) at longDecimal (longAt r) × (now (s .exit) ≡ now (s .entry)) ⌝ }
 {
-    match decimal(s, at, LONG, LONG_BEFORE, DECIMALS) {
-        DecimalAt::Absent(p) => LongAt::Absent(p),
-        DecimalAt::Is(minus, n, k, p) => {
+    let first = minus_sign(s, at);
+    match unsigned_place(s, first.at, LONG, LONG_BEFORE, DECIMALS) {
+        UnsignedAt::Absent(p) => {
+            if first.minus {
+                return LongAt::Number;
+            }
+            LongAt::Absent(p)
+        }
+        UnsignedAt::Is(n, k, p) => {
             let billionths = n * pow10(DECIMALS - k);
-            let value = nearest_f64(minus, billionths);
+            let value = nearest_f64(first.minus, billionths);
             LongAt::Is(
                 LongDecimal {
-                    minus: minus,
+                    minus: first.minus,
                     size: n,
                     decimals: k,
                     billionths: billionths,
@@ -278,7 +265,7 @@ pub fn long_decimal(s: &[u8], at: usize) -> LongAt
                 p,
             )
         }
-        DecimalAt::Number => LongAt::Number,
+        UnsignedAt::Number => LongAt::Number,
     }
 }
 

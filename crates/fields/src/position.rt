@@ -22,7 +22,7 @@ pub struct Coordinate {
 }
 
 // `z`, negated where `minus` says so.
-fn turned(z: i64, minus: bool) -> i64
+fn turned_count(z: i64, minus: bool) -> i64
     requires { ⌜ natAbs z < 100000000000000 ⌝ }
     ensures { λ r. ⌜ r ≡ turned z minus ⌝ }
 {
@@ -35,7 +35,7 @@ fn billionths_of(deg: u8, m: LongDecimal) -> i64
     ensures { λ r. ⌜ r ≡ billionthsOf deg (aLong m) ⌝ }
 {
     let degrees = (deg as u64) * 60000000000;
-    let minutes = turned(m.billionths as i64, m.minus);
+    let minutes = turned_count(m.billionths as i64, m.minus);
     (degrees as i64) + minutes
 }
 
@@ -52,7 +52,7 @@ fn located(deg: u8, m: LongDecimal, letter: u8, minus: bool) -> Coordinate
     requires { ⌜ m .billionths < 1000000000000 ⌝ }
     ensures { λ r. ⌜ coordinate r ≡ positionOf deg (aLong m) letter minus ⌝ }
 {
-    let count = turned(billionths_of(deg, m), minus);
+    let count = turned_count(billionths_of(deg, m), minus);
     let degrees = degrees_of(deg, m.value, minus);
     Coordinate {
         count: count,

@@ -13,15 +13,15 @@ use Rattle.fields.proofs.position.located.Tie as tie
 counted : (c : tie.After-billionths-of) → toZ w64 (ofZ w64 (c .billionths-of .result)) ≡ c .billionths-of .result
 counted c = search needs
 
-turned-requires : tie.Need-turned-requires
-turned-requires c κs =
+turned-count-requires : tie.Need-turned-count-requires
+turned-count-requires c κs =
     let a = c .before .args in
     rw (counted c, c .billionths-of .ensures) (omega (arith, sum-size (a .deg * 60000000000) (a .m .billionths) (a .m .minus)))
 
 returns : tie.Need-returns
 returns c =
-    let e : toZ w64 (ofZ w64 (c .before .turned .result)) ≡ c .before .turned .result = search needs in
-    rw (e, c .before .turned .ensures, counted (c .before .before), c .before .before .billionths-of .ensures, c .degrees-of .ensures)
+    let e : toZ w64 (ofZ w64 (c .before .turned-count .result)) ≡ c .before .turned-count .result = search needs in
+    rw (e, c .before .turned-count .ensures, counted (c .before .before), c .before .before .billionths-of .ensures, c .degrees-of .ensures)
 
 pub located-spec : {M : Type 1} → statement M
-located-spec = tie.close (tie.spec (λ c κs. search needs) turned-requires (λ c κs. search needs) returns)
+located-spec = tie.close (tie.spec (λ c κs. search needs) turned-count-requires (λ c κs. search needs) returns)

@@ -1,12 +1,12 @@
--- `turned` meets its contract: the number is no extreme, so its negation fits. Assumes nothing.
+-- `turned_count` meets its contract: the number is no extreme, so its negation fits. Assumes nothing.
 use native.Mathlib.Omega.{arith}
 use mathlib.Core.Path.{_≡_}
 use mir.Syntax.{w64}
 use mir.Val.{toZ, ofZ}
 use Rattle.decimal.proofs.Negation.{fits64, back64}
 use borrow.Author.Needs.{needs}
-use Rattle.fields.proofs.position.turned.Statement.{statement}
-use Rattle.fields.proofs.position.turned.Tie as tie
+use Rattle.fields.proofs.position.turned_count.Statement.{statement}
+use Rattle.fields.proofs.position.turned_count.Tie as tie
 
 sub-result : tie.Need-sub-result
 sub-result c =
@@ -26,5 +26,5 @@ returns-2 c =
     let e : toZ w64 (ofZ w64 z) ≡ z = search needs in
     rw (e, c .if1 .left)
 
-pub turned-spec : {M : Type 1} → statement M
-turned-spec = tie.close (tie.spec sub-result returns returns-2)
+pub turned-count-spec : {M : Type 1} → statement M
+turned-count-spec = tie.close (tie.spec sub-result returns returns-2)

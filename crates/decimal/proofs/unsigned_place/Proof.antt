@@ -1,4 +1,4 @@
--- `unsigned` meets its contract: each answer is a case of the definition (`Cases`), by the digits before the point, the point, and the digits
+-- `unsigned_place` meets its contract: each answer is a case of the definition (`Cases`), by the digits before the point, the point, and the digits
 -- behind it. Assumes nothing.
 use native.Mathlib.Omega.{arith}
 use mathlib.Core.Path.{refl, ap, sym, _∙_}
@@ -10,8 +10,8 @@ use Rattle.decimal.specs.Answer.{ran}
 use Rattle.decimal.proofs.Cases.{Begun, Pointed, Closed, none-at, over-at, few-before, zero-at, whole-at, other-at, room-at, long-at, no-digits-at, good-at, junk-at}
 use Rattle.decimal.proofs.Power.{under}
 use borrow.Author.Needs.{needs}
-use Rattle.decimal.proofs.unsigned.Statement.{statement}
-use Rattle.decimal.proofs.unsigned.Tie as tie
+use Rattle.decimal.proofs.unsigned_place.Statement.{statement}
+use Rattle.decimal.proofs.unsigned_place.Tie as tie
 
 -- behind the first run
 began : (c : tie.After-known-told) → let a = c .before .before .before .before .before .before .before .args in let g = c .before .v .given .0 in
@@ -93,8 +93,8 @@ returns-8 c =
 returns-9 : tie.Need-returns-9
 returns-9 c = (junk-at _ _ _ (closed (c .before .before .before)) (sym (c .before .ends3 .ensures .0) ∙ c .if5 .left), refl)
 
-pub unsigned-spec : {M : Type 1} → statement M
-unsigned-spec = tie.close (tie.spec
+pub unsigned-place-spec : {M : Type 1} → statement M
+unsigned-place-spec = tie.close (tie.spec
     (λ c κs. search needs) returns run-requires (λ c. search needs) (λ c. search needs) returns-2 returns-3 (λ c κs. search needs) returns-4
     (λ c κs. search needs) (λ c. search needs) (λ c. search needs) returns-5 sub-least (λ c κs. search needs) run-requires-2
     (λ c. search needs) (λ c. search needs) returns-6 returns-7 (λ c κs. search needs) returns-8 returns-9)

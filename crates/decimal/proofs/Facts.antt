@@ -10,7 +10,7 @@ use lib.IntN.{natAbs}
 use Rattle.text.specs.Reader.{Parse, miss, refuse, got, after, _>>=_, pure}
 use Rattle.text.specs.Placed.{Reads}
 use Rattle.text.proofs.Places.{took}
-use Rattle.decimal.specs.Decimal.{Limits, Decimal, decimal, short, long}
+use Rattle.decimal.specs.Decimal.{Limits, Decimal, text, decimal, short, long}
 use Rattle.decimal.specs.Places.{Short, Long, shortOf, longOf, signed, shortDecimal, longDecimal}
 use Rattle.decimal.specs.Answer.{shortAt, aShort, longAt, aLong}
 use Rattle.decimal.specs.declared.ShortDecimal.{ShortDecimal}
@@ -20,24 +20,27 @@ use Rattle.decimal.specs.declared.LongDecimal.{LongDecimal}
 use Rattle.decimal.specs.declared.LongAt.{LongAt}
 use Rattle.decimal.specs.declared.LongAt.the-variants.{Is as ALong}
 use Rattle.decimal.proofs.Power.{minutes-lt}
+use Rattle.decimal.specs.Plain.{Plain}
 use Rattle.decimal.proofs.Bounds.{Bounded, bounded}
+use Rattle.decimal.proofs.Exactly.{decimal-only}
 
--- what a place reads, where the decimal is taken over by `f`: the decimal itself, with its bounds
-pub record From {A : Type 0} (lim : Limits) (f : Decimal → A) (a : A) : Type 0 where
+-- what a place reads, where the decimal is taken over by `f`: the decimal itself, which its text writes, with its bounds
+pub record From {A : Type 0} (lim : Limits) (f : Decimal → A) (l : List ℕ) (a : A) : Type 0 where
   pub of : Decimal
+  pub written : Plain lim (text l) of
   pub same : f of ≡ a
   pub known : Bounded lim of
 
 pub from : {A : Type 0} (lim : Limits) (f : Decimal → A) (l : List ℕ) {a : A} {m : List ℕ}
-    → (decimal lim >>= (λ d. pure (Option·map f d))) l ≡ got (some a) m → From lim f a
+    → (decimal lim >>= (λ d. pure (Option·map f d))) l ≡ got (some a) m → From lim f l a
 unfolding _>>=_ pure
 from {A} lim f l {a} {m} e = by (decimal lim l) refl e
   where
-    by : (r : Parse (Option Decimal)) → decimal lim l ≡ r → after r (λ d. pure (Option·map f d)) ≡ got (some a) m → From lim f a
+    by : (r : Parse (Option Decimal)) → decimal lim l ≡ r → after r (λ d. pure (Option·map f d)) ≡ got (some a) m → From lim f l a
     by miss g e = let y : _≡_ {A = ℕ} 0 1 = cc in absurd (omega arith)
     by (refuse x) g e = let y : _≡_ {A = ℕ} 0 1 = cc in absurd (omega arith)
     by (got none k) g e = let y : _≡_ {A = ℕ} 0 1 = cc in absurd (omega arith)
-    by (got (some d) k) g e = let h : f d ≡ a = cc in record { of = d; same = h; known = bounded lim l g }
+    by (got (some d) k) g e = let h : f d ≡ a = cc in record { of = d; written = decimal-only lim l g .0; same = h; known = bounded lim l g }
 
 pub record ShortFacts (d : Short) : Type 0 where
   pub small : natAbs (d .whole) < 10000000

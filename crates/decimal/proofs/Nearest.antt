@@ -9,7 +9,6 @@ use mathlib.Core.Bool.{Bool, true, false, not, true≢false}
 use mathlib.Core.List.{List}
 use mathlib.Core.Option.{some}
 use lib.Dec.{T, isLe, isEq, eqb, ltb, leb→le, nleb→lt, eqb→eq, eqb-refl, lit≤}
-use lib.IntN.{natAbs}
 use lib.Arith.{lt-of-le-ne}
 use lib.Pow.{pow-add, pow-pos, pow-mono}
 use lib.Ieee.{Float, nan, inf, fin, Format, binary32, binary64, prec, emax, low, size, nearest, round, neg, fits}
@@ -21,12 +20,13 @@ use lib.Ieee.Order.{drop, kept}
 use lib.Ieee.Scale.{grid, overflow, round-val}
 use borrow.Author.Tests.{ltb-true, ltb-false}
 use Rattle.text.specs.Reader.{got}
-use Rattle.decimal.specs.Decimal.{Limits, Decimal, short, long}
-use Rattle.decimal.specs.Places.{Short, Long, shortOf, longOf, signed, floatOf, shortDecimal, longDecimal}
+use Rattle.decimal.specs.Decimal.{Limits, Decimal, text, short, long}
+use Rattle.decimal.specs.Places.{Short, Long, shortOf, longOf, floatOf, shortDecimal, longDecimal}
 use Rattle.decimal.proofs.Power.{ten-pos}
 use Rattle.decimal.proofs.Exact.{neg-round}
 use Rattle.decimal.proofs.Bounds.{Bounded}
-use Rattle.decimal.proofs.Facts.{from, size-of}
+use Rattle.decimal.specs.Plain.{Plain}
+use Rattle.decimal.proofs.Facts.{From, from}
 
 abbrev Cmp : Ordering → ℕ → ℕ → Type 0
 Cmp Ordering·lt a b = a < b
@@ -194,30 +194,31 @@ decimal-nearest f lim d e b h E =
     let c = 10 ^ d .decimals in
     round-nearest f (d .minus) (d .size) c e (ten-pos (d .decimals)) (below-times (d .size) (2 ^ e) c (lt-of-lt-of-le (b .small) h) (ten-pos (d .decimals))) E
 
--- a short decimal's whole number and its float have one sign, which of zero the float alone tells
-pub record ShortNearest (d : Short) : Type 0 where
-  pub minus : Bool
-  pub whole : d .whole ≡ signed (natAbs (d .whole)) minus
-  pub float : Nearest binary32 minus (d .value) (natAbs (d .whole)) (10 ^ d .decimals)
+-- what was read at a place is the decimal that the place's text writes, and no value of the format lies nearer to that than x, which has the
+-- text's sign: of minus zero too
+pub record ReadNearest {A : Type 0} (lim : Limits) (of : Decimal → A) (l : List ℕ) (a : A) (f : Format) (x : Float) : Type 0 where
+  pub decimal : Decimal
+  pub written : Plain lim (text l) decimal
+  pub same : of decimal ≡ a
+  pub nearest : Nearest f (decimal .minus) x (decimal .size) (10 ^ decimal .decimals)
+
+read-nearest : {A : Type 0} (lim : Limits) (of : Decimal → A) (value : A → Float) (f : Format) (e : ℕ) (l : List ℕ) {a : A} → From lim of l a
+    → ((d : Decimal) → value (of d) ≡ floatOf f d) → 10 ^ lim .all ≤ 2 ^ e → e ≤ emax f → ReadNearest lim of l a f (value a)
+read-nearest lim of value f e l h v k E =
+    let d = h .of in
+    let x : floatOf f d ≡ value _ = sym (v d) ∙ ap value (h .same) in
+    record {
+      decimal = d;
+      written = h .written;
+      same = h .same;
+      nearest = subst (λ (y : Float). Nearest f (d .minus) y (d .size) (10 ^ d .decimals)) x (decimal-nearest f lim d e (h .known) k E);
+    }
 
 -- the float of every short and of every long decimal that is read
-pub short-read-nearest : (l : List ℕ) {d : Short} {m : List ℕ} → shortDecimal l ≡ got (some d) m → ShortNearest d
+pub short-read-nearest : (l : List ℕ) {d : Short} {m : List ℕ} → shortDecimal l ≡ got (some d) m → ReadNearest short shortOf l d binary32 (d .value)
 unfolding shortDecimal
-short-read-nearest l e =
-    let h = from short shortOf l e in
-    let d = h .of in
-    let k = size-of (d .size) (d .minus) in
-    subst (λ (x : Short). ShortNearest x) (h .same)
-    (record {
-      minus = d .minus;
-      whole = ap (λ (n : ℕ). signed n (d .minus)) (sym k);
-      float = rw k (decimal-nearest binary32 short d 24 (h .known) (lit≤ tt) (lit≤ tt));
-    })
+short-read-nearest l e = read-nearest short shortOf (λ d. d .value) binary32 24 l (from short shortOf l e) (λ d. refl) (lit≤ tt) (lit≤ tt)
 
-pub long-read-nearest : (l : List ℕ) {d : Long} {m : List ℕ} → longDecimal l ≡ got (some d) m
-    → Nearest binary64 (d .minus) (d .value) (d .size) (10 ^ d .decimals)
+pub long-read-nearest : (l : List ℕ) {d : Long} {m : List ℕ} → longDecimal l ≡ got (some d) m → ReadNearest long longOf l d binary64 (d .value)
 unfolding longDecimal
-long-read-nearest l e =
-    let h = from long longOf l e in
-    subst (λ (x : Long). Nearest binary64 (x .minus) (x .value) (x .size) (10 ^ x .decimals)) (h .same)
-    (decimal-nearest binary64 long (h .of) 40 (h .known) (lit≤ tt) (lit≤ tt))
+long-read-nearest l e = read-nearest long longOf (λ d. d .value) binary64 40 l (from long longOf l e) (λ d. refl) (lit≤ tt) (lit≤ tt)

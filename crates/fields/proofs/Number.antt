@@ -11,10 +11,10 @@ use mathlib.Core.Option.{Option, none, some}
 use lib.Dec.{leb}
 use lib.ListN.{length}
 use Rattle.text.specs.Bytes.{byte}
-use Rattle.text.specs.Reader.{Fault, Parse, miss, got, after, _>>=_, _>>_, char, orMiss}
+use Rattle.text.specs.Reader.{Fault, Parse, miss, got, Reader, after, _>>=_, _>>_, pure, char, orMiss}
 use Rattle.text.specs.Number.{fixed, twoBytes, threeBytes}
 use Rattle.text.proofs.Binds.{bind-miss, char-other, unbind, pure-is}
-use Rattle.text.proofs.Faults.{Clear, Never, clear-miss, never-bind, never-pure, never-opt, never-orMiss, never-char, never-oneOf, never-fixed}
+use Rattle.text.proofs.Faults.{Clear, Never, clear-miss, never-bind, never-pure, never-opt, never-orMiss, never-char, never-oneOf, never-letterOf, never-fixed}
 use Rattle.decimal.specs.Decimal.{text, short, long}
 use Rattle.decimal.specs.Places.{Long, longDecimal}
 use Rattle.decimal.proofs.Facts.{long-facts}
@@ -23,6 +23,8 @@ use Rattle.fields.specs.Time.{noSign, clock, hms, optHms}
 use Rattle.fields.specs.Date.{fullYear, dateOf, date, optDate}
 use Rattle.fields.specs.Position.{side, latitude, longitude, doLatLon, commas, latLon}
 use Rattle.fields.specs.Variation.{doVariation, variation}
+use Rattle.fields.specs.Place.{withComma}
+use Rattle.fields.specs.Letter.{letterPlace, unitLetter, unitPlace}
 use Rattle.fields.proofs.Clock.{clear-clock}
 
 -- the seconds stand behind hour and minute
@@ -138,3 +140,28 @@ variation-number =
     (λ f. never-bind never-comma (λ _. never-pure none))
     (first magnetic-number (λ v f. never-pure (some v)))
     (λ l x. bind-miss (char (byte ",")) _ l (no-comma l x))
+
+-- a comma behind a field, a letter and a unit add no fault
+module _ {A : Type 0} where
+  never-rest : (a : A) {f : Fault} → Never f (char (byte ",") >>= (λ _. pure a))
+  never-rest a = never-bind (never-char (byte ",")) (λ _. never-pure a)
+
+  pub never-with : {f : Fault} {r : Reader A} → Never f r → Never f (withComma r)
+  unfolding withComma
+  never-with h = never-bind h (λ a. never-rest a)
+
+  pub with-comma : {r : Reader A} {ps : List Place} → NumberAt r ps → NumberAt (withComma r) ps
+  unfolding withComma
+  with-comma h = first h (λ a f. never-rest a)
+
+module _ {f : Fault} where
+  pub never-letter-place : (letters : List ℕ) → Never f (letterPlace letters)
+  never-letter-place letters = never-with (never-letterOf letters)
+
+  pub never-unit : (letter : ℕ) → Never f (unitLetter letter)
+  unfolding unitLetter
+  never-unit letter = never-bind (never-opt (never-char letter)) (λ _. never-pure tt)
+
+  pub never-unit-place : (letter : ℕ) → Never f (unitPlace letter)
+  unfolding unitPlace
+  never-unit-place letter = never-bind (never-unit letter) (λ _. never-comma)

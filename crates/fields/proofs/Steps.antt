@@ -1,6 +1,6 @@
 -- The laws of reading at each answer of the fields, for `search`. Assumes nothing.
 use Prim.Native.Nat.{ℕ}
-use mathlib.Core.Path.{_≡_, ap, sym, _∙_}
+use mathlib.Core.Path.{_≡_, ap, refl, sym, _∙_}
 use mathlib.Core.Bool.{Bool, true, false}
 use mathlib.Core.List.{List}
 use mathlib.Core.Option.{Option}
@@ -119,7 +119,11 @@ module _ {B : Type 0} {s : List ℕ} {at : ℕ} where
   pub fail-held : {q : Reader (Option Short)} (k : Option Short → Reader B) {r : ShortPlace} → r ≡ ShortNumber → Reads s at q (shortPlaceAt r) → Reads s at (q >>= k) (refused Number)
   fail-held k e t = fail k t (ap shortPlaceAt e)
 
+  -- a unit's letter, there or missing
+  pub go-unit : {q : Reader (Unit {0})} (k : Unit {0} → Reader B) {p : ℕ} {b : Placed B} → Reads s at q (upto tt p) → Reads s p (k tt) b → Reads s at (q >>= k) b
+  go-unit k t u = go k t refl u
+
 pub ruleset steps = (stop-whole, go-whole, stop-next, go-next, stop-letter, go-letter, stop-miss, go-some, fail-long, go-no-long, go-long, stop-signed, go-unsigned, fail-short, go-no-short, go-short, no-day, a-day, stop-side, fail-side, go-side, stop-both, fail-both, go-both, stop-magnetic, fail-magnetic, go-magnetic, done)
 
 -- a field that may be absent, and its comma
-pub ruleset commas = (stop-next, go-next, fail-short, go-no-short, go-short, stop-time, go-time, fail-time, late-time, stop-date, go-date, stop-position, go-position, fail-position, done)
+pub ruleset commas = (stop-next, go-next, stop-letter, go-letter, fail-short, go-no-short, go-short, stop-time, go-time, fail-time, late-time, stop-date, go-date, stop-position, go-position, fail-position, done)

@@ -1,4 +1,5 @@
 -- What each answer of the code says.
+use Prim.Native.Nat.{ℕ}
 use mathlib.Core.Option.{Option, none, some}
 use Rattle.text.specs.Reader.{Number, BadTime}
 use Rattle.text.specs.Placed.{Placed, unread, refused, upto}
@@ -35,6 +36,8 @@ use Rattle.fields.specs.declared.position.PositionAt.{PositionAt}
 use Rattle.fields.specs.declared.position.PositionAt.the-variants.{No as NoPosition, Is as PositionIs, Number as PositionNumber}
 use Rattle.fields.specs.declared.variation.MagneticAt.{MagneticAt}
 use Rattle.fields.specs.declared.variation.MagneticAt.the-variants.{No as NoMagnetic, Is as AMagnetic, Number as MagneticNumber}
+use Rattle.fields.specs.declared.letter.LetterHeld.{LetterHeld}
+use Rattle.fields.specs.declared.letter.LetterHeld.the-variants.{Absent as NoLetter, Is as ALetter}
 use Rattle.fields.specs.declared.place.ShortHeld.{ShortHeld}
 use Rattle.fields.specs.declared.place.ShortHeld.the-variants.{Absent as NoShort, Is as AShort}
 use Rattle.fields.specs.declared.place.ShortPlace.{ShortPlace}
@@ -116,3 +119,7 @@ abbrev pub shortPlaceAt : ShortPlace → Placed (Option Short)
 shortPlaceAt NoShortPlace = unread
 shortPlaceAt ShortNumber = refused Number
 shortPlaceAt (ShortIs d p) = upto (shortHeld d) p
+
+abbrev pub letterHeld : LetterHeld → Option ℕ
+letterHeld NoLetter = none
+letterHeld (ALetter b) = some b

@@ -1,6 +1,8 @@
-// Fields that are more than a number: time, date, position and magnetic variation, each of which may be absent, alone and with its comma.
+// Fields that are more than a number: time, date, position and magnetic variation, each of which may be absent, alone and with its comma;
+// letters, and units.
 // A reader follows the Rust's of its name: the parts from left to right, and the next place.
 mod date;
+mod letter;
 mod place;
 mod position;
 mod time;
@@ -13,6 +15,10 @@ pub use date::DateRead;
 pub use date::Day;
 pub use date::opt_date;
 pub use date::parse_date;
+pub use letter::LetterHeld;
+pub use letter::letter_place;
+pub use letter::unit_letter;
+pub use letter::unit_place;
 pub use place::ShortHeld;
 pub use place::ShortPlace;
 pub use place::date_place;

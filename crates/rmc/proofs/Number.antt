@@ -5,15 +5,16 @@ use Prim.Native.Nat.{ℕ}
 use mathlib.Core.List.{List, [], _∷_, _++_}
 use mathlib.Core.Option.{Option, none, some}
 use Rattle.text.specs.Bytes.{byte}
-use Rattle.text.specs.Reader.{Fault, Reader, _>>=_, _>>_, pure, char}
+use Rattle.text.specs.Reader.{Fault, Reader, _>>=_, _>>_, char}
 use Rattle.text.specs.Number.{twoBytes, threeBytes}
 use Rattle.text.proofs.Faults.{Never, never-bind, never-pure, never-opt, never-char, never-letterOf}
 use Rattle.decimal.specs.Decimal.{short, long}
 use Rattle.decimal.proofs.Number.{Place, place, here, NumberAt, behind, never, both, first, short-number}
 use Rattle.fields.specs.Position.{latitude}
-use Rattle.fields.proofs.Number.{timePlaces, positionPlaces, variationPlaces, time-number, never-date, position-number, variation-number}
-use Rattle.fields.specs.Place.{withComma, timePlace, shortPlace}
-use Rattle.rmc.specs.Rmc.{fixLetters, modeLetters, statusLetters, statusPlace, ifComma, optLetter, fixPart, motion, letters, ending, rmc}
+use Rattle.fields.proofs.Number.{timePlaces, positionPlaces, variationPlaces, time-number, never-date, position-number, variation-number, never-with, with-comma, never-letter-place}
+use Rattle.fields.specs.Place.{timePlace, shortPlace}
+use Rattle.fields.specs.Letter.{modeLetters, letterPlace}
+use Rattle.rmc.specs.Rmc.{fixLetters, statusLetters, ifComma, optLetter, fixPart, motion, letters, ending, rmc}
 
 -- what is read before each place
 abbrev pub beforeSeconds : Reader (Unit {0})
@@ -25,14 +26,14 @@ beforeSeconds = do
 abbrev pub beforeLatitudeMinutes : Reader (Unit {0})
 beforeLatitudeMinutes = do
   timePlace
-  statusPlace
+  letterPlace fixLetters
   twoBytes
   here
 
 abbrev pub beforeLongitudeMinutes : Reader (Unit {0})
 beforeLongitudeMinutes = do
   timePlace
-  statusPlace
+  letterPlace fixLetters
   latitude
   char (byte ",")
   threeBytes
@@ -65,23 +66,11 @@ rmcPlaces =
     ∷ place short beforeVariation
     ∷ []
 
-module _ {A : Type 0} where
-  never-rest : (a : A) {f : Fault} → Never f (char (byte ",") >>= (λ _. pure a))
-  never-rest a = never-bind (never-char (byte ",")) (λ _. never-pure a)
-
-  never-with : {f : Fault} {r : Reader A} → Never f r → Never f (withComma r)
-  unfolding withComma
-  never-with h = never-bind h (λ a. never-rest a)
-
-  with-comma : {r : Reader A} {ps : List Place} → NumberAt r ps → NumberAt (withComma r) ps
-  unfolding withComma
-  with-comma h = first h (λ a f. never-rest a)
-
-fix-number : NumberAt fixPart (timePlaces ++ behind timePlace (behind statusPlace positionPlaces))
+fix-number : NumberAt fixPart (timePlaces ++ behind timePlace (behind (letterPlace fixLetters) positionPlaces))
 unfolding fixPart
 fix-number =
     both (with-comma time-number)
-    (λ t. both (never (λ f. never-with (never-letterOf fixLetters))) (λ s. first (with-comma position-number) (λ p f. never-pure _)))
+    (λ t. both (never (λ f. never-letter-place fixLetters)) (λ s. first (with-comma position-number) (λ p f. never-pure _)))
 
 motion-number : NumberAt motion (place short here ∷ behind shortPlace (place short here ∷ []))
 unfolding motion

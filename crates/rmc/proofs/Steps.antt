@@ -6,10 +6,11 @@ use mathlib.Core.Option.{Option}
 use Rattle.text.specs.Reader.{Reader, _>>=_, Number, BadTime}
 use Rattle.text.specs.Placed.{Placed, unread, refused, Reads}
 use Rattle.text.proofs.Places.{stop, fail, go, done}
-use Rattle.text.proofs.Steps.{stop-next, go-next, stop-letter, go-letter}
+use Rattle.text.proofs.Steps.{stop-letter, go-letter}
 use Rattle.fields.proofs.Steps.{stop-time, go-time, fail-time, late-time, stop-date, go-date, stop-position, go-position, fail-position, stop-held, go-held, fail-held}
 use Rattle.rmc.specs.Rmc.{Fix as FixOf, Motion as MotionOf, Letters as LettersOf, Ending as EndingOf}
-use Rattle.rmc.specs.Answer.{letterHeld, letterAt, fixOf, fixAt, motionOf, motionAt, lettersOf, lettersAt, endingOf, endingAt}
+use Rattle.fields.specs.Answer.{letterHeld}
+use Rattle.rmc.specs.Answer.{letterAt, fixOf, fixAt, motionOf, motionAt, lettersOf, lettersAt, endingOf, endingAt}
 use Rattle.rmc.specs.declared.Fix.{Fix}
 use Rattle.rmc.specs.declared.Motion.{Motion}
 use Rattle.rmc.specs.declared.Ending.{Ending}
@@ -58,7 +59,5 @@ module _ {B : Type 0} {s : List ℕ} {at : ℕ} where
 
   pub go-letters : {q : Reader LettersOf} (k : LettersOf → Reader B) (r : LettersAt) {b : Placed B} → Reads s at q (lettersAt r) → Reads s (r .at) (k (lettersOf (r .letters))) b → Reads s at (q >>= k) b
   go-letters k r t u = go k t refl u
-
-pub ruleset commas = (stop-next, go-next, stop-letter, go-letter, done)
 
 pub ruleset parts = (stop-letter, go-letter, stop-time, fail-time, late-time, go-time, stop-date, go-date, stop-position, fail-position, go-position, stop-held, fail-held, go-held, stop-fix, fail-fix, late-fix, go-fix, stop-motion, fail-motion, go-motion, stop-ending, fail-ending, go-ending, go-letter-field, go-letters, done)

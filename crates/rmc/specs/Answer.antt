@@ -1,13 +1,11 @@
 -- What each answer of the code says.
 use Prim.Native.Nat.{ℕ}
-use mathlib.Core.Option.{Option, none, some}
+use mathlib.Core.Option.{Option}
 use Rattle.text.specs.Reader.{Number, BadTime}
 use Rattle.text.specs.Placed.{Placed, unread, refused, upto}
 use Rattle.text.specs.Value.{Value, syntax, fault, is}
-use Rattle.fields.specs.Answer.{timeHeld, dateHeld, positionHeld, shortHeld}
+use Rattle.fields.specs.Answer.{timeHeld, dateHeld, positionHeld, shortHeld, letterHeld}
 use Rattle.rmc.specs.Rmc.{Fix as FixOf, Motion as MotionOf, Letters as LettersOf, Ending as EndingOf, Rmc}
-use Rattle.rmc.specs.declared.LetterHeld.{LetterHeld}
-use Rattle.rmc.specs.declared.LetterHeld.the-variants.{Absent as NoLetter, Is as ALetter}
 use Rattle.rmc.specs.declared.FixAt.{FixAt}
 use Rattle.rmc.specs.declared.FixAt.the-variants.{No as NoFixHere, Is as FixHere, Number as FixNumber, BadTime as FixBad}
 use Rattle.rmc.specs.declared.MotionAt.{MotionAt}
@@ -23,10 +21,6 @@ use Rattle.rmc.specs.declared.Ending.{Ending}
 use Rattle.rmc.specs.declared.RmcData.{RmcData}
 use Rattle.rmc.specs.declared.RmcRead.{RmcRead}
 use Rattle.rmc.specs.declared.RmcRead.the-variants.{Syntax, Is as Reads, Number as RmcNumber, BadTime as RmcBad}
-
-abbrev pub letterHeld : LetterHeld → Option ℕ
-letterHeld NoLetter = none
-letterHeld (ALetter b) = some b
 
 abbrev pub letterAt : LetterField → Placed (Option ℕ)
 letterAt r = upto (letterHeld (r .letter)) (r .at)

@@ -20,23 +20,17 @@ use Rattle.decimal.specs.Places.{Short}
 use Rattle.fields.specs.Time.{Time}
 use Rattle.fields.specs.Date.{Date}
 use Rattle.fields.specs.Position.{LatLon}
-use Rattle.fields.specs.Place.{withComma, timePlace, datePlace, positionPlace, shortPlace}
+use Rattle.fields.specs.Place.{timePlace, datePlace, positionPlace, shortPlace}
+use Rattle.fields.specs.Letter.{modeLetters, letterPlace}
 use Rattle.fields.specs.Variation.{variation}
 
 -- "Status A, D or V"
 abbrev pub fixLetters : List ℕ
 fixLetters = bytes "ADV"
 
--- the letters of faa_mode.rs
-abbrev pub modeLetters : List ℕ
-modeLetters = bytes "ACDEFMNPRSU"
-
 -- "Again for the status, ADEMNSV"
 abbrev pub statusLetters : List ℕ
 statusLetters = bytes "ADEMNSV"
-
-abbrev pub statusPlace : Reader ℕ
-statusPlace = withComma (letterOf fixLetters)
 
 -- where a comma stood, a letter that may be absent; an unknown letter is not eaten
 unfoldable pub ifComma : List ℕ → Option (Unit {0}) → Reader (Option ℕ)
@@ -58,7 +52,7 @@ pub record Fix : Type 0 where
 unfoldable pub fixPart : Reader Fix
 fixPart = do
   time ← timePlace
-  status ← statusPlace
+  status ← letterPlace fixLetters
   position ← positionPlace
   pure (record { time = time; status = status; position = position })
 

@@ -3,11 +3,11 @@
 ghost use mathlib.Core.Path.{_≡_};
 ghost use Rattle.text.specs.Placed.{Reads};
 ghost use Rattle.text.specs.Value.{value};
-ghost use Rattle.text.specs.Answer.{lettered};
-ghost use Rattle.rmc.specs.Rmc.{statusPlace, optLetter, fixPart, motion, letters, ending, rmc};
+ghost use Rattle.rmc.specs.Rmc.{optLetter, fixPart, motion, letters, ending, rmc};
 ghost use Rattle.rmc.specs.Answer.{letterAt, fixAt, motionAt, lettersAt, endingAt, rmcRead};
 use fields::DateAt;
 use fields::DateHeld;
+use fields::LetterHeld;
 use fields::PositionAt;
 use fields::PositionHeld;
 use fields::ShortHeld;
@@ -16,25 +16,6 @@ use fields::TimeAt;
 use fields::TimeHeld;
 use text::Letter;
 use text::Next;
-
-// A letter that may be absent.
-pub enum LetterHeld {
-    Absent,
-    Is(u8),
-}
-
-// The status of the fix, with its comma.
-fn status_place(s: &[u8], at: usize) -> Letter
-    ensures { λ r. ⌜ Reads (now (s .entry)) at statusPlace (lettered r) × (now (s .exit) ≡ now (s .entry)) ⌝ }
-{
-    let Letter::Is(b, at) = text::one_among(s, at, b"ADV") else {
-        return Letter::No;
-    };
-    let Next::At(at) = text::byte(s, at, b',') else {
-        return Letter::No;
-    };
-    Letter::Is(b, at)
-}
 
 // A letter that may be absent, and the next place.
 pub struct LetterField {
@@ -84,7 +65,7 @@ fn fix_part(s: &[u8], at: usize) -> FixAt
     match fields::time_place(s, at) {
         TimeAt::No => FixAt::No,
         TimeAt::Is(time, at) => {
-            let Letter::Is(status, at) = status_place(s, at) else {
+            let Letter::Is(status, at) = fields::letter_place(s, at, b"ADV") else {
                 return FixAt::No;
             };
             match fields::position_place(s, at) {

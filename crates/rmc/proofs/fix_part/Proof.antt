@@ -9,8 +9,8 @@ use Rattle.rmc.proofs.fix_part.Tie as tie
 pub fix-part-spec : {M : Type 1} → statement M
 unfolding fixPart
 fix-part-spec = tie.close (tie.spec
-    (λ c κs. search needs) (λ c. search needs) (λ c. search needs) (λ c κs. search needs) (λ c. search needs) (λ c. search needs)
-    (λ c. (search parts depth 14, refl)) (λ c κs. search needs) (λ c. search needs) (λ c. search needs) (λ c. search needs)
-    (λ c. search needs) (λ c. search needs) (λ c. (search parts depth 14, refl)) (λ c. (search parts depth 14, refl))
+    (λ c κs. search needs) (λ c. search needs) (λ c. search needs) (λ c. search needs) (λ c κs. search needs) (λ c. search needs)
+    (λ c. search needs) (λ c. (search parts depth 14, refl)) (λ c κs. search needs) (λ c. search needs) (λ c. search needs)
+    (λ c. search needs) (λ c. search needs) (λ c. search needs) (λ c. (search parts depth 14, refl))
     (λ c. (search parts depth 14, refl)) (λ c. (search parts depth 14, refl)) (λ c. (search parts depth 14, refl))
-    (λ c. (search parts depth 14, refl)))
+    (λ c. (search parts depth 14, refl)) (λ c. (search parts depth 14, refl)))

@@ -1,0 +1,2 @@
+pub mod Gga
+pub mod Answer

@@ -1,0 +1,2 @@
+pub mod Gll
+pub mod Answer

@@ -1,0 +1,2 @@
+pub mod Vtg
+pub mod Answer

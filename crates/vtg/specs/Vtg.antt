@@ -7,6 +7,7 @@
 --     |       `- course in degrees from magnetic north, which is not kept
 --     `- course in degrees from true north
 use Prim.Native.Nat.{ℕ}
+use mathlib.Core.Bool.{false}
 use mathlib.Core.Option.{Option, none, some}
 use lib.Ieee.{Float, binary32, round, div}
 use Rattle.text.specs.Bytes.{byte}

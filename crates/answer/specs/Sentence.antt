@@ -13,16 +13,14 @@ use Rattle.gsv.specs.Gsv.{Gsv, gsv, GsvSentence}
 use Rattle.gsa.specs.System.{Settled, absent, is as settledAs, mismatch, named, settle}
 use Rattle.gsa.specs.Gsa.{Gsa, gsa}
 use Rattle.rmc.specs.Rmc.{Rmc, rmc}
+use Rattle.gga.specs.Gga.{Gga, gga}
+use Rattle.gll.specs.Gll.{Gll, gll}
+use Rattle.vtg.specs.Vtg.{Vtg, vtg}
 
--- an RMC sentence: its talker and its data
-pub record RmcSentence : Type 0 where
+-- a sentence: its talker and its data; of GSA the system is settled between the two
+pub record Sentence (A : Type 0) : Type 0 where
   pub talker : List ℕ
-  pub body : Rmc
-
--- a GSA sentence: its talker and its data, the system settled between the two
-pub record GsaSentence : Type 0 where
-  pub talker : List ℕ
-  pub body : Gsa
+  pub body : A
 
 -- a sentence of a known type that we do not read: its talker and its type
 pub record OtherSentence : Type 0 where
@@ -30,9 +28,12 @@ pub record OtherSentence : Type 0 where
   pub kind : List ℕ
 
 pub data Answer : Type 0 where
-  isRmc : RmcSentence → Answer
-  isGsa : GsaSentence → Answer
+  isRmc : Sentence Rmc → Answer
+  isGsa : Sentence Gsa → Answer
   isGsv : GsvSentence → Answer
+  isGga : Sentence Gga → Answer
+  isGll : Sentence Gll → Answer
+  isVtg : Sentence Vtg → Answer
   isOther : OtherSentence → Answer
   isRefused : Refused → Answer
 
@@ -48,6 +49,27 @@ asRmc t d = isRmc (record { talker = t; body = d })
 
 abbrev pub rmcOf : Parts → Answer
 rmcOf p = orRefused (asRmc (p .talker)) (value (rmc (p .text)))
+
+-- parse_gga
+abbrev pub asGga : List ℕ → Gga → Answer
+asGga t d = isGga (record { talker = t; body = d })
+
+abbrev pub ggaOf : Parts → Answer
+ggaOf p = orRefused (asGga (p .talker)) (value (gga (p .text)))
+
+-- parse_gll
+abbrev pub asGll : List ℕ → Gll → Answer
+asGll t d = isGll (record { talker = t; body = d })
+
+abbrev pub gllOf : Parts → Answer
+gllOf p = orRefused (asGll (p .talker)) (value (gll (p .text)))
+
+-- parse_vtg
+abbrev pub asVtg : List ℕ → Vtg → Answer
+asVtg t d = isVtg (record { talker = t; body = d })
+
+abbrev pub vtgOf : Parts → Answer
+vtgOf p = orRefused (asVtg (p .talker)) (value (vtg (p .text)))
 
 abbrev pub gsaNames : List ℕ → Option ℕ
 gsaNames [] = none
@@ -92,23 +114,32 @@ abbrev pub framedBy : (Parts → Answer) → Outcome → Answer
 framedBy r (accepted p) = r p
 framedBy r (refused x) = isRefused x
 
--- the three letters behind the talker; three types are read
+-- the three letters behind the talker; six types are read
 pub data Formatter : Type 0 where
   rmcType : Formatter
   gsaType : Formatter
   gsvType : Formatter
+  ggaType : Formatter
+  gllType : Formatter
+  vtgType : Formatter
   otherType : Formatter
 
 unfoldable pub formatterOf : List ℕ → Formatter
 formatterOf k =
     cond (alike k (bytes "RMC")) rmcType
     (cond (alike k (bytes "GSA")) gsaType
-    (cond (alike k (bytes "GSV")) gsvType otherType))
+    (cond (alike k (bytes "GSV")) gsvType
+    (cond (alike k (bytes "GGA")) ggaType
+    (cond (alike k (bytes "GLL")) gllType
+    (cond (alike k (bytes "VTG")) vtgType otherType)))))
 
 abbrev pub readAs : Formatter → Parts → Answer
 readAs rmcType p = rmcOf p
 readAs gsaType p = gsaOf p
 readAs gsvType p = gsvOf p
+readAs ggaType p = ggaOf p
+readAs gllType p = gllOf p
+readAs vtgType p = vtgOf p
 readAs otherType p = isOther (record { talker = p .talker; kind = p .kind })
 
 -- the dispatch of parse_str
@@ -123,7 +154,7 @@ answer l = framedBy dispatch (frame l)
 abbrev pub ofType : List ℕ → Parts → Answer
 ofType name p = cond (alike (p .kind) name) (dispatch p) (isRefused (wrongHeader name (p .kind)))
 
--- parse_rmc, parse_gsa and parse_gsv: a line that must be of the type of this name
+-- parse_rmc and its like: a line that must be of the type of this name
 unfoldable pub parseAs : List ℕ → List ℕ → Answer
 parseAs name l = framedBy (ofType name) (frame l)
 
@@ -132,5 +163,8 @@ abbrev pub verdictOf : Answer → Option Refused
 verdictOf (isRmc r) = none
 verdictOf (isGsa g) = none
 verdictOf (isGsv g) = none
+verdictOf (isGga g) = none
+verdictOf (isGll g) = none
+verdictOf (isVtg v) = none
 verdictOf (isOther k) = none
 verdictOf (isRefused r) = some r

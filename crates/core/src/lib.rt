@@ -7,7 +7,7 @@ ghost use Prim.Native.Nat.{_≤_};
 ghost use lib.Dec.{eqb, leb};
 ghost use lib.ListN.{length};
 ghost use Rattle.frame.specs.Answer.{parts};
-ghost use Rattle.answer.specs.Sentence.{rmcOf, gsaOf, gsvOf, dispatch, answer};
+ghost use Rattle.answer.specs.Sentence.{rmcOf, gsaOf, gsvOf, ggaOf, gllOf, vtgOf, dispatch, answer};
 ghost use Rattle.gather.specs.Table.{tableWords};
 ghost use Rattle.words.specs.Words.{wordCount};
 ghost use Rattle.core.specs.Answer.{Takes};
@@ -16,6 +16,8 @@ use frame::Framed;
 use frame::Refusal;
 use frame::Sentence;
 use gather::line::Outcome;
+use gga::GgaRead;
+use gll::GllRead;
 use gsa::GsaAnswer;
 use gsa::Settled;
 use gsa::System;
@@ -26,6 +28,7 @@ use gsv::HeadAt;
 use gsv::TalkerOf;
 use rmc::RmcRead;
 use sentence::Formatter;
+use vtg::VtgRead;
 
 // A line in brief: accepted; an accepted GSV line, with what stands in front of its entries and what it did to its row; or refused.
 pub enum Taken {
@@ -48,6 +51,56 @@ fn take_rmc(line: &[u8], x: Sentence, out: &mut [u64]) -> Taken
         }
         RmcRead::Number => Taken::Refused(Refusal::Number),
         RmcRead::BadTime => Taken::Refused(Refusal::BadTime),
+    }
+}
+
+fn take_gga(line: &[u8], x: Sentence, out: &mut [u64]) -> Taken
+    requires { ⌜ x .to ≤ length (now line) ⌝ }
+    ensures { λ r. ⌜ Quiet (ggaOf (parts (now (line .entry)) x)) (now (out .entry)) (now (out .exit)) r ⌝ }
+{
+    let talker = x.talker;
+    let data = x.data(line);
+    match gga::do_parse_gga(data) {
+        GgaRead::Syntax => Taken::Refused(Refusal::Syntax),
+        GgaRead::Is(d) => {
+            words::put_gga(&mut *out, talker, d);
+            Taken::Accepted
+        }
+        GgaRead::Number => Taken::Refused(Refusal::Number),
+        GgaRead::BadTime => Taken::Refused(Refusal::BadTime),
+    }
+}
+
+fn take_gll(line: &[u8], x: Sentence, out: &mut [u64]) -> Taken
+    requires { ⌜ x .to ≤ length (now line) ⌝ }
+    ensures { λ r. ⌜ Quiet (gllOf (parts (now (line .entry)) x)) (now (out .entry)) (now (out .exit)) r ⌝ }
+{
+    let talker = x.talker;
+    let data = x.data(line);
+    match gll::do_parse_gll(data) {
+        GllRead::Syntax => Taken::Refused(Refusal::Syntax),
+        GllRead::Is(d) => {
+            words::put_gll(&mut *out, talker, d);
+            Taken::Accepted
+        }
+        GllRead::Number => Taken::Refused(Refusal::Number),
+        GllRead::BadTime => Taken::Refused(Refusal::BadTime),
+    }
+}
+
+fn take_vtg(line: &[u8], x: Sentence, out: &mut [u64]) -> Taken
+    requires { ⌜ x .to ≤ length (now line) ⌝ }
+    ensures { λ r. ⌜ Quiet (vtgOf (parts (now (line .entry)) x)) (now (out .entry)) (now (out .exit)) r ⌝ }
+{
+    let talker = x.talker;
+    let data = x.data(line);
+    match vtg::do_parse_vtg(data) {
+        VtgRead::Syntax => Taken::Refused(Refusal::Syntax),
+        VtgRead::Is(d) => {
+            words::put_vtg(&mut *out, talker, d);
+            Taken::Accepted
+        }
+        VtgRead::Number => Taken::Refused(Refusal::Number),
     }
 }
 
@@ -129,6 +182,9 @@ fn dispatch(line: &[u8], x: Sentence, out: &mut [u64], table: &mut [u32]) -> Tak
         Formatter::Rmc => take_rmc(line, x, &mut *out),
         Formatter::Gsa => take_gsa(line, x, &mut *out),
         Formatter::Gsv => take_gsv(line, x, &mut *out, &mut *table),
+        Formatter::Gga => take_gga(line, x, &mut *out),
+        Formatter::Gll => take_gll(line, x, &mut *out),
+        Formatter::Vtg => take_vtg(line, x, &mut *out),
         Formatter::Other => {
             words::put_other(&mut *out, talker, kind);
             Taken::Accepted

@@ -15,6 +15,9 @@ pub fn follow(answer: Record, words: &mut [u32]) -> Outcome
         Record::Rmc(_) => Outcome::Nothing,
         Record::Gsa(_) => Outcome::Nothing,
         Record::Gsv(g) => gather::table::gather(words, g),
+        Record::Gga(_) => Outcome::Nothing,
+        Record::Gll(_) => Outcome::Nothing,
+        Record::Vtg(_) => Outcome::Nothing,
         Record::Other(_) => Outcome::Nothing,
         Record::Refused(_) => Outcome::Nothing,
     }

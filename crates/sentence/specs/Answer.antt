@@ -6,29 +6,52 @@ use lib.ListN.{length, take}
 use Rattle.frame.specs.Answer.{talkerBytes, letters, refused}
 use Rattle.gsv.specs.Answer.{gsvSentence}
 use Rattle.gsa.specs.Answer.{gsaOf as gsaData, row}
+use Rattle.rmc.specs.Rmc.{Rmc}
 use Rattle.rmc.specs.Answer.{rmcData}
-use Rattle.answer.specs.Sentence.{Answer, isRmc, isGsa, isGsv, isOther, isRefused, RmcSentence, GsaSentence, OtherSentence, Formatter, rmcType, gsaType, gsvType, otherType}
+use Rattle.gsa.specs.Gsa.{Gsa}
+use Rattle.gga.specs.Gga.{Gga}
+use Rattle.gga.specs.Answer.{ggaData}
+use Rattle.gll.specs.Gll.{Gll}
+use Rattle.gll.specs.Answer.{gllData}
+use Rattle.vtg.specs.Vtg.{Vtg}
+use Rattle.vtg.specs.Answer.{vtgData}
+use Rattle.answer.specs.Sentence.{Answer, isRmc, isGsa, isGsv, isGga, isGll, isVtg, isOther, isRefused, Sentence, OtherSentence, Formatter, rmcType, gsaType, gsvType, ggaType, gllType, vtgType, otherType}
 use Rattle.sentence.specs.declared.RmcRecord.{RmcRecord}
 use Rattle.sentence.specs.declared.GsaRecord.{GsaRecord}
+use Rattle.sentence.specs.declared.GgaRecord.{GgaRecord}
+use Rattle.sentence.specs.declared.GllRecord.{GllRecord}
+use Rattle.sentence.specs.declared.VtgRecord.{VtgRecord}
 use Rattle.sentence.specs.declared.OtherRecord.{OtherRecord}
 use Rattle.sentence.specs.declared.Record.{Record}
-use Rattle.sentence.specs.declared.Record.the-variants.{Rmc as ARmc, Gsa as AGsa, Gsv as AGsv, Other as AnOther, Refused as ARefusal}
+use Rattle.sentence.specs.declared.Record.the-variants.{Rmc as ARmc, Gsa as AGsa, Gsv as AGsv, Gga as AGga, Gll as AGll, Vtg as AVtg, Other as AnOther, Refused as ARefusal}
 use Rattle.sentence.specs.declared.ParseResult.{ParseResult}
 use Rattle.sentence.specs.declared.Formatter as Code
-use Rattle.sentence.specs.declared.Formatter.the-variants.{Rmc, Gsa, Gsv, Other}
+use Rattle.sentence.specs.declared.Formatter.the-variants.{Rmc as TypeRmc, Gsa as TypeGsa, Gsv as TypeGsv, Gga as TypeGga, Gll as TypeGll, Vtg as TypeVtg, Other as TypeOther}
 
 abbrev pub formatter : Code.Formatter → Formatter
-formatter Rmc = rmcType
-formatter Gsa = gsaType
-formatter Gsv = gsvType
-formatter Other = otherType
+formatter TypeRmc = rmcType
+formatter TypeGsa = gsaType
+formatter TypeGsv = gsvType
+formatter TypeGga = ggaType
+formatter TypeGll = gllType
+formatter TypeVtg = vtgType
+formatter TypeOther = otherType
 
-abbrev pub rmcSentence : RmcRecord → RmcSentence
+abbrev pub rmcSentence : RmcRecord → Sentence Rmc
 rmcSentence r = record { talker = talkerBytes (r .talker); body = rmcData (r .data) }
 
 -- a GSA record with its satellites
-abbrev pub gsaSentence : List ℕ → GsaRecord → GsaSentence
+abbrev pub gsaSentence : List ℕ → GsaRecord → Sentence Gsa
 gsaSentence xs g = record { talker = talkerBytes (g .talker); body = gsaData xs (g .head) }
+
+abbrev pub ggaSentence : GgaRecord → Sentence Gga
+ggaSentence r = record { talker = talkerBytes (r .talker); body = ggaData (r .data) }
+
+abbrev pub gllSentence : GllRecord → Sentence Gll
+gllSentence r = record { talker = talkerBytes (r .talker); body = gllData (r .data) }
+
+abbrev pub vtgSentence : VtgRecord → Sentence Vtg
+vtgSentence r = record { talker = talkerBytes (r .talker); body = vtgData (r .data) }
 
 abbrev pub otherSentence : OtherRecord → OtherSentence
 otherSentence o = record { talker = talkerBytes (o .talker); kind = letters (o .kind) }
@@ -37,6 +60,9 @@ abbrev pub recordOf : List ℕ → Record → Answer
 recordOf xs (ARmc r) = isRmc (rmcSentence r)
 recordOf xs (AGsa g) = isGsa (gsaSentence xs g)
 recordOf xs (AGsv g) = isGsv (gsvSentence g)
+recordOf xs (AGga r) = isGga (ggaSentence r)
+recordOf xs (AGll r) = isGll (gllSentence r)
+recordOf xs (AVtg r) = isVtg (vtgSentence r)
 recordOf xs (AnOther o) = isOther (otherSentence o)
 recordOf xs (ARefusal r) = isRefused (refused r)
 
@@ -45,6 +71,9 @@ abbrev pub satellitesOf : Answer → List ℕ
 satellitesOf (isRmc d) = []
 satellitesOf (isGsa g) = g .body .satellites
 satellitesOf (isGsv g) = []
+satellitesOf (isGga g) = []
+satellitesOf (isGll g) = []
+satellitesOf (isVtg v) = []
 satellitesOf (isOther k) = []
 satellitesOf (isRefused r) = []
 

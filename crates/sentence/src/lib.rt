@@ -6,7 +6,7 @@ ghost use lib.ListN.{length};
 ghost use Rattle.text.specs.Bytes.{bytes};
 ghost use Rattle.frame.specs.Types.{alike};
 ghost use Rattle.frame.specs.Answer.{letters, parts};
-ghost use Rattle.answer.specs.Sentence.{rmcOf, gsaOf, gsvOf, formatterOf, dispatch, answer, parseAs};
+ghost use Rattle.answer.specs.Sentence.{rmcOf, gsaOf, gsvOf, ggaOf, gllOf, vtgOf, formatterOf, dispatch, answer, parseAs};
 ghost use Rattle.sentence.specs.Answer.{formatter, recordOf, Says};
 ghost use Rattle.sentence.specs.Code.{alone};
 use frame::Framed;
@@ -14,6 +14,10 @@ use frame::Kind;
 use frame::Refusal;
 use frame::Sentence;
 use frame::Talker;
+use gga::GgaData;
+use gga::GgaRead;
+use gll::GllData;
+use gll::GllRead;
 use gsa::GsaAnswer;
 use gsa::GsaHead;
 use gsa::Settled;
@@ -23,12 +27,20 @@ use gsv::GsvRecord;
 use gsv::TalkerOf;
 use rmc::RmcData;
 use rmc::RmcRead;
+use vtg::VtgData;
+use vtg::VtgRead;
 
 const RMC: Kind = Kind(b'R', b'M', b'C');
 
 const GSA: Kind = Kind(b'G', b'S', b'A');
 
 const GSV: Kind = Kind(b'G', b'S', b'V');
+
+const GGA: Kind = Kind(b'G', b'G', b'A');
+
+const GLL: Kind = Kind(b'G', b'L', b'L');
+
+const VTG: Kind = Kind(b'V', b'T', b'G');
 
 // An RMC sentence: its talker and its data.
 pub struct RmcRecord {
@@ -42,6 +54,24 @@ pub struct GsaRecord {
     pub head: GsaHead,
 }
 
+// A GGA sentence: its talker and its data.
+pub struct GgaRecord {
+    pub talker: Talker,
+    pub data: GgaData,
+}
+
+// A GLL sentence: its talker and its data.
+pub struct GllRecord {
+    pub talker: Talker,
+    pub data: GllData,
+}
+
+// A VTG sentence: its talker and its data.
+pub struct VtgRecord {
+    pub talker: Talker,
+    pub data: VtgData,
+}
+
 // A sentence of a known type that we do not read.
 pub struct OtherRecord {
     pub talker: Talker,
@@ -53,6 +83,9 @@ pub enum Record {
     Rmc(RmcRecord),
     Gsa(GsaRecord),
     Gsv(GsvRecord),
+    Gga(GgaRecord),
+    Gll(GllRecord),
+    Vtg(VtgRecord),
     Other(OtherRecord),
     Refused(Refusal),
 }
@@ -89,6 +122,56 @@ fn rmc_of(s: &[u8], x: Sentence) -> Record
         }),
         RmcRead::Number => Record::Refused(Refusal::Number),
         RmcRead::BadTime => Record::Refused(Refusal::BadTime),
+    }
+}
+
+fn gga_of(s: &[u8], x: Sentence) -> Record
+    requires { ⌜ x .to ≤ length (now s) ⌝ }
+    ensures { λ r. ⌜ (recordOf [] r ≡ ggaOf (parts (now (s .entry)) x)) × (now (s .exit) ≡ now (s .entry)) ⌝ }
+{
+    let talker = x.talker;
+    let data = x.data(s);
+    match gga::do_parse_gga(data) {
+        GgaRead::Syntax => Record::Refused(Refusal::Syntax),
+        GgaRead::Is(d) => Record::Gga(GgaRecord {
+            talker: talker,
+            data: d,
+        }),
+        GgaRead::Number => Record::Refused(Refusal::Number),
+        GgaRead::BadTime => Record::Refused(Refusal::BadTime),
+    }
+}
+
+fn gll_of(s: &[u8], x: Sentence) -> Record
+    requires { ⌜ x .to ≤ length (now s) ⌝ }
+    ensures { λ r. ⌜ (recordOf [] r ≡ gllOf (parts (now (s .entry)) x)) × (now (s .exit) ≡ now (s .entry)) ⌝ }
+{
+    let talker = x.talker;
+    let data = x.data(s);
+    match gll::do_parse_gll(data) {
+        GllRead::Syntax => Record::Refused(Refusal::Syntax),
+        GllRead::Is(d) => Record::Gll(GllRecord {
+            talker: talker,
+            data: d,
+        }),
+        GllRead::Number => Record::Refused(Refusal::Number),
+        GllRead::BadTime => Record::Refused(Refusal::BadTime),
+    }
+}
+
+fn vtg_of(s: &[u8], x: Sentence) -> Record
+    requires { ⌜ x .to ≤ length (now s) ⌝ }
+    ensures { λ r. ⌜ (recordOf [] r ≡ vtgOf (parts (now (s .entry)) x)) × (now (s .exit) ≡ now (s .entry)) ⌝ }
+{
+    let talker = x.talker;
+    let data = x.data(s);
+    match vtg::do_parse_vtg(data) {
+        VtgRead::Syntax => Record::Refused(Refusal::Syntax),
+        VtgRead::Is(d) => Record::Vtg(VtgRecord {
+            talker: talker,
+            data: d,
+        }),
+        VtgRead::Number => Record::Refused(Refusal::Number),
     }
 }
 
@@ -166,6 +249,9 @@ pub enum Formatter {
     Rmc,
     Gsa,
     Gsv,
+    Gga,
+    Gll,
+    Vtg,
     Other,
 }
 
@@ -181,6 +267,15 @@ pub fn formatter_of(kind: Kind) -> Formatter
     if same(kind, GSV) {
         return Formatter::Gsv;
     }
+    if same(kind, GGA) {
+        return Formatter::Gga;
+    }
+    if same(kind, GLL) {
+        return Formatter::Gll;
+    }
+    if same(kind, VTG) {
+        return Formatter::Vtg;
+    }
     Formatter::Other
 }
 
@@ -195,6 +290,9 @@ fn dispatch(s: &[u8], x: Sentence) -> ParseResult
         Formatter::Rmc => alone(rmc_of(s, x)),
         Formatter::Gsa => gsa_of(s, x),
         Formatter::Gsv => alone(gsv_of(s, x)),
+        Formatter::Gga => alone(gga_of(s, x)),
+        Formatter::Gll => alone(gll_of(s, x)),
+        Formatter::Vtg => alone(vtg_of(s, x)),
         Formatter::Other => alone(Record::Other(OtherRecord {
             talker: talker,
             kind: kind,
@@ -248,4 +346,25 @@ pub fn parse_gsv(line: &[u8]) -> ParseResult
     ensures { λ r. ⌜ Says (parseAs (bytes "GSV") (now (line .entry))) r × (now (line .exit) ≡ now (line .entry)) ⌝ }
 {
     parse_as(line, GSV)
+}
+
+// The GGA sentence of a line.
+pub fn parse_gga(line: &[u8]) -> ParseResult
+    ensures { λ r. ⌜ Says (parseAs (bytes "GGA") (now (line .entry))) r × (now (line .exit) ≡ now (line .entry)) ⌝ }
+{
+    parse_as(line, GGA)
+}
+
+// The GLL sentence of a line.
+pub fn parse_gll(line: &[u8]) -> ParseResult
+    ensures { λ r. ⌜ Says (parseAs (bytes "GLL") (now (line .entry))) r × (now (line .exit) ≡ now (line .entry)) ⌝ }
+{
+    parse_as(line, GLL)
+}
+
+// The VTG sentence of a line.
+pub fn parse_vtg(line: &[u8]) -> ParseResult
+    ensures { λ r. ⌜ Says (parseAs (bytes "VTG") (now (line .entry))) r × (now (line .exit) ≡ now (line .entry)) ⌝ }
+{
+    parse_as(line, VTG)
 }

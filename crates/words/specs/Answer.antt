@@ -8,11 +8,30 @@ use Rattle.gsa.specs.Answer.{dopsOf, system}
 use Rattle.gsa.specs.declared.GsaHead.{GsaHead}
 use Rattle.rmc.specs.Answer.{rmcData}
 use Rattle.rmc.specs.declared.RmcData.{RmcData}
-use Rattle.answer.specs.Sentence.{RmcSentence, OtherSentence}
+use Rattle.rmc.specs.Rmc.{Rmc}
+use Rattle.gga.specs.Gga.{Gga}
+use Rattle.gga.specs.Answer.{ggaData}
+use Rattle.gga.specs.declared.GgaData.{GgaData}
+use Rattle.gll.specs.Gll.{Gll}
+use Rattle.gll.specs.Answer.{gllData}
+use Rattle.gll.specs.declared.GllData.{GllData}
+use Rattle.vtg.specs.Vtg.{Vtg}
+use Rattle.vtg.specs.Answer.{vtgData}
+use Rattle.vtg.specs.declared.VtgData.{VtgData}
+use Rattle.answer.specs.Sentence.{Sentence, OtherSentence}
 use Rattle.words.specs.Gsa.{gsaHead, gsaTail}
 
-abbrev pub rmcSentence : Talker → RmcData → RmcSentence
+abbrev pub rmcSentence : Talker → RmcData → Sentence Rmc
 rmcSentence t d = record { talker = talkerBytes t; body = rmcData d }
+
+abbrev pub ggaSentence : Talker → GgaData → Sentence Gga
+ggaSentence t d = record { talker = talkerBytes t; body = ggaData d }
+
+abbrev pub gllSentence : Talker → GllData → Sentence Gll
+gllSentence t d = record { talker = talkerBytes t; body = gllData d }
+
+abbrev pub vtgSentence : Talker → VtgData → Sentence Vtg
+vtgSentence t d = record { talker = talkerBytes t; body = vtgData d }
 
 abbrev pub otherSentence : Talker → Kind → OtherSentence
 otherSentence t k = record { talker = talkerBytes t; kind = letters k }

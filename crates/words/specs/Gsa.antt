@@ -12,8 +12,8 @@ use Prim.Native.Nat.{ℕ}
 use mathlib.Core.List.{List, _∷_, _++_}
 use mathlib.Core.Option.{Option, Option·getD}
 use lib.ListN.{length}
-use Rattle.gsa.specs.Gsa.{kept, Dops}
-use Rattle.answer.specs.Sentence.{GsaSentence}
+use Rattle.gsa.specs.Gsa.{kept, Dops, Gsa}
+use Rattle.answer.specs.Sentence.{Sentence}
 use Rattle.words.specs.Part.{zeros, padded, dopsWords}
 
 -- 0 to 18
@@ -25,7 +25,7 @@ gsaHead talker mode fix system dops =
 abbrev pub gsaTail : ℕ → List ℕ → List ℕ
 gsaTail count satellites = count ∷ (padded kept satellites ++ zeros 2)
 
-abbrev pub gsaWords : GsaSentence → List ℕ
+abbrev pub gsaWords : Sentence Gsa → List ℕ
 gsaWords g =
     gsaHead (g .talker) (g .body .mode) (g .body .fix) (g .body .system) (g .body .dops)
     ++ gsaTail (length (g .body .satellites)) (g .body .satellites)

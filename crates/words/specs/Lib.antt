@@ -2,6 +2,9 @@ pub mod Part
 pub mod Rmc
 pub mod Gsa
 pub mod Gsv
+pub mod Gga
+pub mod Gll
+pub mod Vtg
 pub mod Other
 pub mod Refused
 pub mod Words

@@ -14,8 +14,8 @@
 use Prim.Native.Nat.{ℕ}
 use mathlib.Core.List.{List, [], _∷_, _++_}
 use mathlib.Core.Option.{Option·getD}
-use Rattle.rmc.specs.Rmc.{Fix, Motion, Ending}
-use Rattle.answer.specs.Sentence.{RmcSentence}
+use Rattle.rmc.specs.Rmc.{Fix, Motion, Ending, Rmc}
+use Rattle.answer.specs.Sentence.{Sentence}
 use Rattle.words.specs.Part.{zeros, padded, timeWords, positionWords, shortWords, dateWords}
 
 -- 3 to 17
@@ -31,7 +31,7 @@ abbrev pub endingWords : Ending → List ℕ
 endingWords e =
     shortWords (e .variation) ++ (Option·getD (e .letters .mode) 0 ∷ Option·getD (e .letters .status) 0 ∷ [])
 
-abbrev pub rmcWords : RmcSentence → List ℕ
+abbrev pub rmcWords : Sentence Rmc → List ℕ
 rmcWords r =
     1 ∷ (padded 2 (r .talker)
     ++ (fixWords (r .body .fix) ++ (motionWords (r .body .motion) ++ (endingWords (r .body .ending) ++ zeros 1))))

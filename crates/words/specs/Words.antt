@@ -4,10 +4,13 @@ use mathlib.Core.List.{List, _++_}
 use mathlib.Core.Bool.{cond}
 use lib.Dec.{leb}
 use lib.ListN.{length, drop}
-use Rattle.answer.specs.Sentence.{Answer, isRmc, isGsa, isGsv, isOther, isRefused}
+use Rattle.answer.specs.Sentence.{Answer, isRmc, isGsa, isGsv, isGga, isGll, isVtg, isOther, isRefused}
 use Rattle.words.specs.Rmc.{rmcWords}
 use Rattle.words.specs.Gsa.{gsaWords}
 use Rattle.words.specs.Gsv.{gsvWords}
+use Rattle.words.specs.Gga.{ggaWords}
+use Rattle.words.specs.Gll.{gllWords}
+use Rattle.words.specs.Vtg.{vtgWords}
 use Rattle.words.specs.Other.{otherWords}
 use Rattle.words.specs.Refused.{refusedWords}
 
@@ -20,6 +23,9 @@ abbrev pub words : Answer → List ℕ
 words (isRmc r) = rmcWords r
 words (isGsa g) = gsaWords g
 words (isGsv g) = gsvWords g
+words (isGga g) = ggaWords g
+words (isGll g) = gllWords g
+words (isVtg v) = vtgWords v
 words (isOther o) = otherWords o
 words (isRefused r) = refusedWords r
 
@@ -28,6 +34,9 @@ abbrev pub refusalNumber : Answer → ℕ
 refusalNumber (isRmc r) = 0
 refusalNumber (isGsa g) = 0
 refusalNumber (isGsv g) = 0
+refusalNumber (isGga g) = 0
+refusalNumber (isGll g) = 0
+refusalNumber (isVtg v) = 0
 refusalNumber (isOther o) = 0
 refusalNumber (isRefused r) = r .number
 

@@ -1,5 +1,6 @@
 // The parts of an answer, each written at a place of words that are lent. The caller has room for them.
 ghost use mathlib.Core.List.{[], _∷_};
+ghost use mathlib.Core.Option.{Option·getD};
 ghost use mathlib.Core.Path.{_≡_};
 ghost use Prim.Native.Nat.{_+_, _≤_};
 ghost use lib.ListN.{length};
@@ -7,7 +8,7 @@ ghost use lib.IntN.{natAbs};
 ghost use lib.Seq.{sets};
 ghost use Rattle.text.specs.Answer.{held};
 ghost use Rattle.decimal.specs.Answer.{aShort};
-ghost use Rattle.fields.specs.Answer.{timeHeld, dateHeld, coordinate, positionHeld, shortHeld};
+ghost use Rattle.fields.specs.Answer.{timeHeld, dateHeld, coordinate, positionHeld, shortHeld, letterHeld};
 ghost use Rattle.frame.specs.Answer.{letters};
 ghost use Rattle.gsa.specs.Answer.{dopsOf};
 ghost use Rattle.words.specs.Part.{zeros, sign, optionWords, timeWords, dateWords, coordinateWords, positionWords, dopWords, shortWords, dopsWords};
@@ -15,6 +16,7 @@ ghost use Rattle.words.specs.Words.{wordCount};
 use decimal::ShortDecimal;
 use fields::Coordinate;
 use fields::DateHeld;
+use fields::LetterHeld;
 use fields::PositionHeld;
 use fields::ShortHeld;
 use fields::TimeHeld;
@@ -32,6 +34,12 @@ pub(crate) const GSV: u64 = 3;
 pub(crate) const OTHER: u64 = 4;
 
 pub(crate) const REFUSED: u64 = 5;
+
+pub(crate) const GGA: u64 = 6;
+
+pub(crate) const GLL: u64 = 7;
+
+pub(crate) const VTG: u64 = 8;
 
 // Where that word stands, and behind it the talker.
 pub(crate) const KIND: usize = 0;
@@ -103,6 +111,16 @@ pub(crate) fn put_type(out: &mut [u64], at: usize, kind: Kind)
 {
     put_two(&mut *out, at, kind.0 as u64, kind.1 as u64);
     out[at + 2] = kind.2 as u64;
+}
+
+// A letter that may be absent.
+pub(crate) fn letter_word(l: LetterHeld) -> u64
+    ensures { λ r. ⌜ r ≡ Option·getD (letterHeld l) 0 ⌝ }
+{
+    match l {
+        LetterHeld::Absent => 0,
+        LetterHeld::Is(b) => b as u64,
+    }
 }
 
 // A number that may be absent.

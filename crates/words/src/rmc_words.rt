@@ -1,10 +1,9 @@
 // An RMC sentence in words.
-ghost use mathlib.Core.Option.{Option·getD};
 ghost use mathlib.Core.Path.{_≡_};
 ghost use Prim.Native.Nat.{_≤_};
 ghost use lib.ListN.{length};
 ghost use lib.Seq.{sets};
-ghost use Rattle.rmc.specs.Answer.{letterHeld, fixOf, motionOf, endingOf};
+ghost use Rattle.rmc.specs.Answer.{fixOf, motionOf, endingOf};
 ghost use Rattle.words.specs.Rmc.{fixWords, motionWords, endingWords, rmcWords};
 ghost use Rattle.words.specs.Words.{wordCount, into};
 ghost use Rattle.words.specs.Answer.{rmcSentence};
@@ -13,7 +12,6 @@ use crate::part;
 use frame::Talker;
 use rmc::Ending;
 use rmc::Fix;
-use rmc::LetterHeld;
 use rmc::Motion;
 use rmc::RmcData;
 
@@ -37,16 +35,6 @@ const MODE: usize = 37;
 const NAVIGATION: usize = 38;
 
 const REST: usize = 39;
-
-// A letter that may be absent.
-fn letter_word(l: LetterHeld) -> u64
-    ensures { λ r. ⌜ r ≡ Option·getD (letterHeld l) 0 ⌝ }
-{
-    match l {
-        LetterHeld::Absent => 0,
-        LetterHeld::Is(b) => b as u64,
-    }
-}
 
 // Time, status and position.
 fn put_fix(out: &mut [u64], fix: Fix)
@@ -83,8 +71,8 @@ fn put_ending(out: &mut [u64], ending: Ending)
     let mode = letters.mode;
     let status = letters.status;
     part::put_short(&mut *out, VARIATION, variation);
-    out[MODE] = letter_word(mode);
-    out[NAVIGATION] = letter_word(status);
+    out[MODE] = part::letter_word(mode);
+    out[NAVIGATION] = part::letter_word(status);
 }
 
 // Puts an RMC sentence into the first 40 words, and nothing where there are fewer.

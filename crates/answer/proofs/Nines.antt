@@ -65,12 +65,10 @@ worked = (refl, (refl, (refl, (refl, (refl, (refl, (refl, (refl, (refl, (refl, (
 
 -- the first row's bad place is the fourth of RMC, its speed
 pub at-speed : Nine (bytes "$GPRMC,,A,,,,,1e5,,,,*47")
-unfolding here frame sized sentence sentenceType checksumField taken known hex digit checksumFrom types alike listed follow step after ascii until char oneOf among letterOf _>>=_ pure opt alt orMiss fixed decimal hms side latitude doLatLon commas latLon fixPart withComma
+unfolding here formatterOf frame sized sentence sentenceType checksumField taken known hex digit checksumFrom types alike listed follow step after ascii until char oneOf among letterOf _>>=_ pure opt alt orMiss fixed decimal hms side latitude doLatLon commas latLon fixPart withComma
 at-speed =
-    inl
-    (record {
+    record {
       parts = record { talker = bytes "GP"; kind = bytes "RMC"; checksum = 0x47; from = 7; to = 21; text = bytes ",A,,,,,1e5,,,," };
       framed = refl;
-      is-kind = refl;
       bad = inr (inr (inr (inl (record { rest = bytes "1e5,,,,"; reached = refl; no-decimal = number-only short (bytes "1e5,,,,") refl }))));
-    })
+    }

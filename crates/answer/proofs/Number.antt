@@ -1,14 +1,13 @@
 -- 01: "A non-empty text that is not a plain decimal within limits is Number, exactly then .. Checks run left to right." Of a line: it is
--- answered 9 where, and only where, its frame is accepted, it is an RMC or a GSA sentence, and one of that sentence's decimal places is
--- reached and bad. Framing and GSV have no decimal place, and each other refusal has another number. Assumes nothing.
+-- answered 9 where, and only where, its frame is accepted and one of the decimal places of its type is reached and bad. Framing, GSV and
+-- the types that are not read have no decimal place, and each other refusal has another number. Assumes nothing.
 use Prim.Native.Nat.{ℕ}
 use native.Mathlib.Omega.{arith}
 use mathlib.Core.Path.{_≡_, refl, ap, sym, _∙_}
 use mathlib.Core.Bool.{Bool, true, false, cond}
 use mathlib.Core.List.{List, []}
-use mathlib.Core.Logic.{_↔_, _⊎_, inl, inr}
+use mathlib.Core.Logic.{_↔_}
 use mathlib.Core.Option.{Option, none, some}
-use Rattle.text.specs.Bytes.{bytes}
 use Rattle.text.specs.Reader.{UnknownType, Number, BadTime, Parse, miss, refuse, got, Reader}
 use Rattle.text.specs.Value.{value}
 use Rattle.decimal.proofs.Number.{Place, OneBad, NumberAt, never}
@@ -23,24 +22,40 @@ use Rattle.gsa.specs.System.{Settled, absent, is as settledAs, mismatch, settle
 use Rattle.gsa.specs.Gsa.{Gsa}
 use Rattle.gsa.proofs.Number.{gsaPlaces, gsa-number}
 use Rattle.rmc.proofs.Number.{rmcPlaces, rmc-number}
-use Rattle.answer.specs.Sentence.{Answer, isRmc, isGsa, isGsv, isOther, isRefused, orRefused, asRmc, rmcOf, gsaNames, settledGsa, asGsa, gsaOf, gsvNames, asGsv, gsvBy, gsvOf, framedBy, rmcType, gsaType, gsvType, otherType, formatterOf, readAs, dispatch, answer, ofType, parseAs}
+use Rattle.gga.proofs.Number.{ggaPlaces, gga-number}
+use Rattle.gll.proofs.Number.{gllPlaces, gll-number}
+use Rattle.vtg.proofs.Number.{vtgPlaces, vtg-number}
+use Rattle.answer.specs.Sentence.{Answer, isRmc, isGsa, isGsv, isGga, isGll, isVtg, isOther, isRefused, orRefused, asRmc, gsaNames, settledGsa, asGsa, gsvNames, asGsv, gsvBy, asGga, asGll, asVtg, framedBy, Formatter, rmcType, gsaType, gsvType, ggaType, gllType, vtgType, otherType, formatterOf, readAs, dispatch, answer, ofType, parseAs}
 
--- a line that is framed and of this type, with one of these places of its data reached and bad
-pub record BadDecimal (kind : List ℕ) (ps : List Place) (l : List ℕ) : Type 0 where
+-- the decimal places of each type
+abbrev pub placesOf : Formatter → List Place
+placesOf rmcType = rmcPlaces
+placesOf gsaType = gsaPlaces
+placesOf gsvType = []
+placesOf ggaType = ggaPlaces
+placesOf gllType = gllPlaces
+placesOf vtgType = vtgPlaces
+placesOf otherType = []
+
+-- a line that is framed, with one of its type's places reached and bad
+pub record Nine (l : List ℕ) : Type 0 where
   pub parts : Parts
   pub framed : frame l ≡ accepted parts
-  pub is-kind : parts .kind ≡ kind
-  pub bad : OneBad ps (parts .text)
+  pub bad : OneBad (placesOf (formatterOf (parts .kind))) (parts .text)
 
--- an RMC line or a GSA line
-abbrev pub Nine : List ℕ → Type 0
-Nine l = BadDecimal (bytes "RMC") rmcPlaces l ⊎ BadDecimal (bytes "GSA") gsaPlaces l
+-- and of the type of this name
+pub record NineAs (name l : List ℕ) : Type 0 where
+  pub line : Nine l
+  pub is-kind : line .parts .kind ≡ name
 
 -- an answer whose number is 9
 numbered : Answer → ℕ
 numbered (isRmc r) = 0
 numbered (isGsa g) = 0
 numbered (isGsv g) = 0
+numbered (isGga g) = 0
+numbered (isGll g) = 0
+numbered (isVtg v) = 0
 numbered (isOther k) = 0
 numbered (isRefused r) = r .number
 
@@ -70,48 +85,25 @@ settled-clear t g absent e = omega arith
 settled-clear t g (settledAs n) e = omega arith
 settled-clear t g (mismatch m n) e = omega arith
 
--- a framed sentence
+-- a framed sentence, by its type
 module _ (p : Parts) where
-  rmc-data : NineAt (rmcOf p) (OneBad rmcPlaces (p .text))
+  read-nine : (f : Formatter) → NineAt (readAs f p) (OneBad (placesOf f) (p .text))
   unfolding numbered
-  rmc-data = data-nine (asRmc (p .talker)) (λ d e. omega arith) rmc-number (p .text)
-
-  gsa-data : NineAt (gsaOf p) (OneBad gsaPlaces (p .text))
-  gsa-data = data-nine (asGsa (p .talker)) (λ g. settled-clear (p .talker) g (settle (gsaNames (p .talker)) (g .system))) gsa-number (p .text)
-
-  gsv-data : NineAt (gsvOf p) (OneBad [] (p .text))
-  unfolding numbered
-  gsv-data = (λ e. by (gsvNames (p .talker)) e, λ x. absurd x)
+  read-nine rmcType = data-nine (asRmc (p .talker)) (λ d e. omega arith) rmc-number (p .text)
+  read-nine gsaType = data-nine (asGsa (p .talker)) (λ g. settled-clear (p .talker) g (settle (gsaNames (p .talker)) (g .system))) gsa-number (p .text)
+  read-nine gsvType = (λ e. by (gsvNames (p .talker)) e, λ x. absurd x)
     where
       by : (o : Option Talker) → IsNine (gsvBy o p) → ⊥
       by none e = omega arith
       by (some t) e = data-nine (asGsv t) (λ g e. omega arith) (never never-gsv) (p .text) .0 e
+  read-nine ggaType = data-nine (asGga (p .talker)) (λ d e. omega arith) gga-number (p .text)
+  read-nine gllType = data-nine (asGll (p .talker)) (λ d e. omega arith) gll-number (p .text)
+  read-nine vtgType = data-nine (asVtg (p .talker)) (λ d e. omega arith) vtg-number (p .text)
+  read-nine otherType = (λ e. omega arith, λ x. absurd x)
 
-  dispatch-only : (C : Type 0) → (p .kind ≡ bytes "RMC" → OneBad rmcPlaces (p .text) → C) → (p .kind ≡ bytes "GSA" → OneBad gsaPlaces (p .text) → C)
-      → IsNine (dispatch p) → C
-  unfolding dispatch formatterOf numbered
-  dispatch-only C in-rmc in-gsa e = by (alike (p .kind) (bytes "RMC")) (alike (p .kind) (bytes "GSA")) (alike (p .kind) (bytes "GSV")) refl refl e
-    where
-      by : (x y z : Bool) → alike (p .kind) (bytes "RMC") ≡ x → alike (p .kind) (bytes "GSA") ≡ y
-          → IsNine (readAs (cond x rmcType (cond y gsaType (cond z gsvType otherType))) p) → C
-      by true y z f g e = in-rmc (alike-equal (p .kind) (bytes "RMC") f) (rmc-data .0 e)
-      by false true z f g e = in-gsa (alike-equal (p .kind) (bytes "GSA") g) (gsa-data .0 e)
-      by false false true f g e = absurd (gsv-data .0 e)
-      by false false false f g e = absurd (omega arith)
-
--- a sentence of one type is read by that type's reader
-module _ (p : Parts) where
-  as-rmc : p .kind ≡ bytes "RMC" → dispatch p ≡ rmcOf p
-  unfolding dispatch formatterOf alike
-  as-rmc k = ap (λ (n : List ℕ). readAs (formatterOf n) p) k
-
-  as-gsa : p .kind ≡ bytes "GSA" → dispatch p ≡ gsaOf p
-  unfolding dispatch formatterOf alike
-  as-gsa k = ap (λ (n : List ℕ). readAs (formatterOf n) p) k
-
-  as-gsv : p .kind ≡ bytes "GSV" → dispatch p ≡ gsvOf p
-  unfolding dispatch formatterOf alike
-  as-gsv k = ap (λ (n : List ℕ). readAs (formatterOf n) p) k
+  dispatch-nine : NineAt (dispatch p) (OneBad (placesOf (formatterOf (p .kind))) (p .text))
+  unfolding dispatch
+  dispatch-nine = read-nine (formatterOf (p .kind))
 
 -- what is not framed is refused for another reason
 framed-only : (r : Parts → Answer) (l : List ℕ) (C : Type 0) → ((p : Parts) → frame l ≡ accepted p → IsNine (r p) → C)
@@ -123,54 +115,31 @@ framed-only r l C go e = by (frame l) refl (framed-number l) e
     by (accepted p) f n e = go p f e
     by (refused x) f n e = absurd (omega (arith, n .1, e))
 
--- a line that must be of one type, whose reader has these places
-module _ (name : List ℕ) (r : Parts → Answer) (ps : List Place) (h : (p : Parts) → NineAt (r p) (OneBad ps (p .text)))
-    (read : (p : Parts) → p .kind ≡ name → dispatch p ≡ r p) (l : List ℕ) where
-  typed-nine : NineAt (parseAs name l) (BadDecimal name ps l)
-  unfolding parseAs numbered
-  typed-nine = (framed-only (ofType name) l (BadDecimal name ps l) (λ p f e. by p f (alike (p .kind) name) refl e), there)
-    where
-      by : (p : Parts) → frame l ≡ accepted p → (t : Bool) → alike (p .kind) name ≡ t
-          → IsNine (cond t (dispatch p) (isRefused (wrongHeader name (p .kind)))) → BadDecimal name ps l
-      by p f true g e =
-          let k = alike-equal (p .kind) name g in
-          record { parts = p; framed = f; is-kind = k; bad = h p .0 (ap numbered (sym (read p k)) ∙ e) }
-      by p f false g e = absurd (omega arith)
-
-      there : BadDecimal name ps l → framedBy (ofType name) (frame l) ≡ isRefused badNumber
-      there b =
-          let p = b .parts in
-          ap (framedBy (ofType name)) (b .framed)
-          ∙ ap (λ (t : Bool). cond t (dispatch p) (isRefused (wrongHeader name (p .kind)))) (ap (λ (k : List ℕ). alike k name) (b .is-kind) ∙ alike-self name)
-          ∙ read p (b .is-kind)
-          ∙ h p .1 (b .bad)
-
 module _ (l : List ℕ) where
   -- Number where one of the places is bad
   pub nine-where : Nine l → answer l ≡ isRefused badNumber
   unfolding answer
-  nine-where (inl b) = ap (framedBy dispatch) (b .framed) ∙ as-rmc (b .parts) (b .is-kind) ∙ rmc-data (b .parts) .1 (b .bad)
-  nine-where (inr b) = ap (framedBy dispatch) (b .framed) ∙ as-gsa (b .parts) (b .is-kind) ∙ gsa-data (b .parts) .1 (b .bad)
+  nine-where b = ap (framedBy dispatch) (b .framed) ∙ dispatch-nine (b .parts) .1 (b .bad)
 
   -- a refusal of the number 9 only there
   pub nine-only : (r : Refused) → answer l ≡ isRefused r → r .number ≡ badNumber .number → Nine l
   unfolding answer numbered
   nine-only r e nine =
-      framed-only dispatch l (Nine l)
-      (λ p f. dispatch-only p (Nine l)
-      (λ k b. inl (record { parts = p; framed = f; is-kind = k; bad = b }))
-      (λ k b. inr (record { parts = p; framed = f; is-kind = k; bad = b })))
-      (ap numbered e ∙ nine)
+      framed-only dispatch l (Nine l) (λ p f k. record { parts = p; framed = f; bad = dispatch-nine p .0 k }) (ap numbered e ∙ nine)
 
-  -- and so of a line that must be of one type: GSV never answers 9
-  pub rmc-nine : (parseAs (bytes "RMC") l ≡ isRefused badNumber) ↔ BadDecimal (bytes "RMC") rmcPlaces l
-  unfolding numbered
-  rmc-nine = let w = typed-nine (bytes "RMC") rmcOf rmcPlaces rmc-data as-rmc l in (λ e. w .0 (ap numbered e), w .1)
+  -- and so of a line that must be of one type: of GSV never
+  pub nine-as : (name : List ℕ) → (parseAs name l ≡ isRefused badNumber) ↔ NineAs name l
+  unfolding parseAs numbered
+  nine-as name = (λ e. framed-only (ofType name) l (NineAs name l) (λ p f. by p f (alike (p .kind) name) refl) (ap numbered e), there)
+    where
+      by : (p : Parts) → frame l ≡ accepted p → (t : Bool) → alike (p .kind) name ≡ t
+          → IsNine (cond t (dispatch p) (isRefused (wrongHeader name (p .kind)))) → NineAs name l
+      by p f true g e = record { line = record { parts = p; framed = f; bad = dispatch-nine p .0 e }; is-kind = alike-equal (p .kind) name g }
+      by p f false g e = absurd (omega arith)
 
-  pub gsa-nine : (parseAs (bytes "GSA") l ≡ isRefused badNumber) ↔ BadDecimal (bytes "GSA") gsaPlaces l
-  unfolding numbered
-  gsa-nine = let w = typed-nine (bytes "GSA") gsaOf gsaPlaces gsa-data as-gsa l in (λ e. w .0 (ap numbered e), w .1)
-
-  pub gsv-nine : (r : Refused) → parseAs (bytes "GSV") l ≡ isRefused r → r .number ≡ badNumber .number → ⊥
-  unfolding numbered
-  gsv-nine r e nine = typed-nine (bytes "GSV") gsvOf [] gsv-data as-gsv l .0 (ap numbered e ∙ nine) .bad
+      there : NineAs name l → framedBy (ofType name) (frame l) ≡ isRefused badNumber
+      there b =
+          let p = b .line .parts in
+          ap (framedBy (ofType name)) (b .line .framed)
+          ∙ ap (λ (t : Bool). cond t (dispatch p) (isRefused (wrongHeader name (p .kind)))) (ap (λ (k : List ℕ). alike k name) (b .is-kind) ∙ alike-self name)
+          ∙ dispatch-nine p .1 (b .line .bad)

@@ -24,13 +24,22 @@ use Rattle.gsa.specs.Gsa.{Gsa, gsa}
 use Rattle.gsa.proofs.Number.{gsa-number}
 use Rattle.rmc.specs.Rmc.{rmc}
 use Rattle.rmc.proofs.Number.{rmc-number}
-use Rattle.answer.specs.Sentence.{Answer, isRmc, isGsa, isGsv, isOther, isRefused, orRefused, asRmc, rmcOf, gsaNames, settledGsa, asGsa, gsaOf, gsvNames, asGsv, gsvBy, gsvOf, framedBy, Formatter, rmcType, gsaType, gsvType, otherType, formatterOf, readAs, dispatch, answer, ofType, parseAs}
+use Rattle.gga.specs.Gga.{gga}
+use Rattle.gga.proofs.Number.{gga-number}
+use Rattle.gll.specs.Gll.{gll}
+use Rattle.gll.proofs.Number.{gll-number}
+use Rattle.vtg.specs.Vtg.{vtg}
+use Rattle.vtg.proofs.Number.{vtg-number}
+use Rattle.answer.specs.Sentence.{Answer, isRmc, isGsa, isGsv, isGga, isGll, isVtg, isOther, isRefused, orRefused, asRmc, rmcOf, asGga, ggaOf, asGll, gllOf, asVtg, vtgOf, gsaNames, settledGsa, asGsa, gsaOf, gsvNames, asGsv, gsvBy, gsvOf, framedBy, Formatter, rmcType, gsaType, gsvType, ggaType, gllType, vtgType, otherType, formatterOf, readAs, dispatch, answer, ofType, parseAs}
 
 -- if an answer is a refusal, its number is one of 1 to `top`
 abbrev pub Numbered : ℕ → Answer → Type 0
 Numbered top (isRmc r) = Unit {0}
 Numbered top (isGsa g) = Unit {0}
 Numbered top (isGsv g) = Unit {0}
+Numbered top (isGga g) = Unit {0}
+Numbered top (isGll g) = Unit {0}
+Numbered top (isVtg v) = Unit {0}
 Numbered top (isOther k) = Unit {0}
 Numbered top (isRefused r) = (1 ≤ r .number) × (r .number ≤ top)
 
@@ -51,6 +60,15 @@ module _ (top : ℕ) (room : 9 ≤ top) where
 
   of-rmc : (p : Parts) → Numbered top (rmcOf p)
   of-rmc p = reads (asRmc (p .talker)) (λ d. tt) (rmc (p .text)) (no-bad-time rmc-number (p .text))
+
+  of-gga : (p : Parts) → Numbered top (ggaOf p)
+  of-gga p = reads (asGga (p .talker)) (λ d. tt) (gga (p .text)) (no-bad-time gga-number (p .text))
+
+  of-gll : (p : Parts) → Numbered top (gllOf p)
+  of-gll p = reads (asGll (p .talker)) (λ d. tt) (gll (p .text)) (no-bad-time gll-number (p .text))
+
+  of-vtg : (p : Parts) → Numbered top (vtgOf p)
+  of-vtg p = reads (asVtg (p .talker)) (λ d. tt) (vtg (p .text)) (no-bad-time vtg-number (p .text))
 
   settled : (t : List ℕ) (g : Gsa) (s : Settled) → Numbered top (settledGsa t g s)
   settled t g absent = tt
@@ -77,6 +95,9 @@ module _ (top : ℕ) (room : 9 ≤ top) where
       by rmcType = of-rmc p
       by gsaType = of-gsa p
       by gsvType = of-gsv p
+      by ggaType = of-gga p
+      by gllType = of-gll p
+      by vtgType = of-vtg p
       by otherType = tt
 
 of-type : (name : List ℕ) (p : Parts) → Numbered 10 (ofType name p)

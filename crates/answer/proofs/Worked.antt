@@ -1,4 +1,4 @@
--- The sentences that 01 marks P, as rows of one statement: what each is answered, in whole, by computation. Assumes nothing.
+-- The sentences that 01 marks P, and those of requests that have landed, as rows of one statement: what each is answered, in whole, by computation. Assumes nothing.
 use Prim.Native.Nat.{ℕ}
 use mathlib.Core.Path.{_≡_, refl}
 use mathlib.Core.List.{List, [], _∷_}
@@ -15,10 +15,11 @@ use Rattle.decimal.specs.Decimal.{decimal}
 use Rattle.decimal.specs.Places.{Short, shortDecimal, longDecimal}
 use Rattle.fields.specs.Time.{hms, noSign, clock, timed}
 use Rattle.fields.specs.Date.{date}
-use Rattle.fields.specs.Position.{side, latitude, longitude, doLatLon, commas, latLon}
+use Rattle.fields.specs.Position.{LatLon, side, latitude, longitude, doLatLon, commas, latLon}
 use Rattle.fields.specs.Variation.{doVariation, variation}
 use Rattle.fields.specs.Place.{withComma}
-use Rattle.frame.specs.Refused.{badUtf8, notAscii, tooLong, syntaxError, badChecksum}
+use Rattle.fields.specs.Letter.{unitLetter, unitPlace}
+use Rattle.frame.specs.Refused.{badUtf8, notAscii, tooLong, syntaxError, badChecksum, badNumber}
 use Rattle.frame.specs.Types.{types, alike, listed}
 use Rattle.frame.specs.Checksum.{checksumFrom}
 use Rattle.frame.specs.Digits.{digit, hex}
@@ -28,7 +29,10 @@ use Rattle.gsv.specs.Gsv.{Satellite, gsv, entry, counted, cell, closing}
 use Rattle.text.specs.Many.{many, skip, takeWhile1, eof, allConsuming, oneOf3}
 use Rattle.gsa.specs.Gsa.{gsa, emptyTail, lastSystem, fullTail, prnFields, item, dop, dops, afterComma as systemAfterComma, optSystem}
 use Rattle.rmc.specs.Rmc.{rmc, fixPart, motion, letters, ending, ifComma, optLetter}
-use Rattle.answer.specs.Sentence.{Answer, isRmc, isGsa, isGsv, isRefused, formatterOf, dispatch, answer}
+use Rattle.gga.specs.Gga.{gga, fixPart as ggaFix, height}
+use Rattle.gll.specs.Gll.{gll, mode}
+use Rattle.vtg.specs.Vtg.{Vtg, vtg, courses, speed}
+use Rattle.answer.specs.Sentence.{Answer, isRmc, isGsa, isGsv, isGga, isGll, isVtg, isRefused, formatterOf, dispatch, answer}
 
 -- a satellite with all that an entry may hold
 abbrev sat : ℕ → ℕ → ℕ → ℕ → Satellite
@@ -37,6 +41,17 @@ sat i e a s = record { id = i; elevation = some e; azimuth = some a; signal = so
 -- a short decimal of so many digits after the point
 abbrev short : ℕ → ℕ → ℕ → Short
 short n k b = record { whole = pos n; decimals = k; value = ofBits binary32 b }
+
+-- the place of 01's RMC sentence
+abbrev london : LatLon
+london =
+    record {
+      lat = record { count = pos 3090500000000; letter = byte "N"; degrees = ofBits binary64 0x4049C11111111111 };
+      lon = record { count = negℤ (pos 6000000000); letter = byte "W"; degrees = ofBits binary64 0xBFB999999999999A };
+    }
+
+abbrev ofVtg : Vtg → Answer
+ofVtg d = isVtg (record { talker = bytes "GP"; body = d })
 
 abbrev Row : Type 0
 Row = List ℕ × Answer
@@ -106,11 +121,7 @@ rows = (
               fix = record {
                 time = some (record { hour = 10; minute = 15; second = 0; nanosecond = 250000000 });
                 status = byte "A";
-                position = some
-                    (record {
-                      lat = record { count = pos 3090500000000; letter = byte "N"; degrees = ofBits binary64 0x4049C11111111111 };
-                      lon = record { count = negℤ (pos 6000000000); letter = byte "W"; degrees = ofBits binary64 0xBFB999999999999A };
-                    });
+                position = some london;
               };
               motion = record {
                 speed = some (short 45 1 0x40900000);
@@ -127,8 +138,76 @@ rows = (
     ∷ (0xC3 ∷ 0xA9 ∷ [], isRefused notAscii)
     ∷ (0xC3 ∷ 0x28 ∷ [], isRefused badUtf8)
     ∷ (0xED ∷ 0xA0 ∷ 0x80 ∷ [], isRefused badUtf8)
+    ∷ (
+      bytes "$GPGGA,123519,4807.038,N,01131.324,E,1,08,0.9,545.4,M,46.9,M, , *42",
+      isGga
+          (record {
+            talker = bytes "GP";
+            body = record {
+              fix = record {
+                time = some (record { hour = 12; minute = 35; second = 19; nanosecond = 0 });
+                position = some
+                    (record {
+                      lat = record { count = pos 2887038000000; letter = byte "N"; degrees = ofBits binary64 0x40480F03AFB7E910 };
+                      lon = record { count = pos 691324000000; letter = byte "E"; degrees = ofBits binary64 0x40270B4C52775484 };
+                    });
+                quality = byte "1";
+                satellites = some 8;
+              };
+              height = record {
+                hdop = some (short 9 1 0x3F666666);
+                altitude = some (short 5454 1 0x4408599A);
+                geoid = some (short 469 1 0x423B999A);
+              };
+            };
+          }),
+    )
+    -- the comma after the geoid must stand
+    ∷ (bytes "$GPGGA,,,,,,0,,,,,*4A", isRefused syntaxError)
+    ∷ (
+      bytes "$GPGLL,5130.5,N,00006.0,W,101500.25,A,A*7D",
+      isGll
+          (record {
+            talker = bytes "GP";
+            body = record {
+              position = some london;
+              time = some (record { hour = 10; minute = 15; second = 0; nanosecond = 250000000 });
+              status = byte "A";
+              mode = some (byte "A");
+            };
+          }),
+    )
+    -- a mode, if there is one more byte
+    ∷ (
+      bytes "$GPGLL,,,,,,A,AB*3E",
+      isGll (record { talker = bytes "GP"; body = record { position = none; time = none; status = byte "A"; mode = some (byte "A") } }),
+    )
+    ∷ (bytes "$GPGLL,,,,,,A,,*11", isRefused syntaxError)
+    ∷ (
+      bytes "$GPVTG,360.0,T,348.7,M,000.0,N,000.0,K*43",
+      ofVtg
+          (record {
+            course = some (short 3600 1 0x43B40000);
+            speed = some (record { written = short 0 1 0; unit = byte "N"; knots = ofBits binary32 0 });
+          }),
+    )
+    ∷ (
+      bytes "$GPVTG,054.7,T,034.4,M,005.5,N,010.2,K*48",
+      ofVtg
+          (record {
+            course = some (short 547 1 0x425ACCCD);
+            speed = some (record { written = short 55 1 0x40B00000; unit = byte "N"; knots = ofBits binary32 0x40B00000 });
+          }),
+    )
+    ∷ (bytes "$GPVTG,t,T,,,s.ss,N,s.ss,K*77", isRefused badNumber)
+    -- behind the N, or in its place, a speed is in kilometres an hour; the magnetic course must be a decimal, though it is not kept
+    ∷ (
+      bytes "$GPVTG,,,,,,N1,*01",
+      ofVtg (record { course = none; speed = some (record { written = short 1 0 0x3F800000; unit = byte "K"; knots = ofBits binary32 0x3F0A3A9C }) }),
+    )
+    ∷ (bytes "$GPVTG,,,1e5,,,,*1F", isRefused badNumber)
     ∷ []
 
 pub worked : Holds rows
-unfolding answer dispatch formatterOf frame sized sentence sentenceType checksumField taken known hex digit checksumFrom types alike listed follow step after ascii until char oneOf among letterOf _>>=_ pure opt alt orMiss number numberFrom fixed decimal shortDecimal longDecimal hms noSign clock timed date side latitude longitude doLatLon commas latLon doVariation variation rowOf gsv entry counted cell closing many skip takeWhile1 eof allConsuming oneOf3 gsa emptyTail lastSystem fullTail prnFields item dop dops systemAfterComma optSystem rmc fixPart motion letters ending withComma ifComma optLetter round ofBits ofFields odd units size span climb trailingZeros add sum div neg ofInt
-worked = (refl, (refl, (refl, (refl, (refl, (refl, (refl, (refl, (refl, (refl, (refl, (refl, tt))))))))))))
+unfolding answer dispatch formatterOf frame sized sentence sentenceType checksumField taken known hex digit checksumFrom types alike listed follow step after ascii until char oneOf among letterOf _>>=_ pure opt alt orMiss number numberFrom fixed decimal shortDecimal longDecimal hms noSign clock timed date side latitude longitude doLatLon commas latLon doVariation variation rowOf gsv entry counted cell closing many skip takeWhile1 eof allConsuming oneOf3 gsa emptyTail lastSystem fullTail prnFields item dop dops systemAfterComma optSystem rmc fixPart motion letters ending withComma ifComma optLetter unitLetter unitPlace gga ggaFix height gll mode vtg courses speed round ofBits ofFields odd units size span climb trailingZeros add sum div neg ofInt
+worked = (refl, (refl, (refl, (refl, (refl, (refl, (refl, (refl, (refl, (refl, (refl, (refl, (refl, (refl, (refl, (refl, (refl, (refl, (refl, (refl, (refl, (refl, tt))))))))))))))))))))))

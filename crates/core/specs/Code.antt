@@ -2,7 +2,7 @@
 use Prim.Native.Nat.{ℕ}
 use mathlib.Core.Path.{_≡_}
 use mathlib.Core.List.{List}
-use Rattle.answer.specs.Sentence.{Answer, isRmc, isGsa, isGsv, isOther, isRefused}
+use Rattle.answer.specs.Sentence.{Answer, isRmc, isGsa, isGsv, isGga, isGll, isVtg, isOther, isRefused}
 use Rattle.fed.specs.Line.{gathers}
 use Rattle.words.specs.Words.{words, into}
 use Rattle.core.specs.Brief.{briefOf, gsvIn}
@@ -14,6 +14,9 @@ abbrev pub recordInto : Answer → List ℕ → List ℕ
 recordInto (isRmc r) out = into (words (isRmc r)) out
 recordInto (isGsa g) out = into (words (isGsa g)) out
 recordInto (isGsv g) out = into (words (isGsv g)) out
+recordInto (isGga g) out = into (words (isGga g)) out
+recordInto (isGll g) out = into (words (isGll g)) out
+recordInto (isVtg v) out = into (words (isVtg v)) out
 recordInto (isOther o) out = into (words (isOther o)) out
 recordInto (isRefused r) out = out
 

@@ -4,7 +4,7 @@ use mathlib.Core.List.{List, [], _∷_, map}
 use mathlib.Core.Bool.{Bool, true, false}
 use mathlib.Core.Option.{Option, none, some}
 use Rattle.gsv.specs.Gsv.{GsvSentence}
-use Rattle.answer.specs.Sentence.{Answer, isRmc, isGsa, isGsv, isOther, isRefused, answer}
+use Rattle.answer.specs.Sentence.{Answer, isRmc, isGsa, isGsv, isGga, isGll, isVtg, isOther, isRefused, answer}
 use Rattle.rows.specs.Line.{lineOf}
 use Rattle.gather.specs.Table.{tableAfter, saidBy}
 use Rattle.gather.specs.declared.line.Outcome.{Outcome}
@@ -32,6 +32,9 @@ isRefusal blank = false
 isRefusal (read (isRmc r)) = false
 isRefusal (read (isGsa g)) = false
 isRefusal (read (isGsv s)) = false
+isRefusal (read (isGga g)) = false
+isRefusal (read (isGll g)) = false
+isRefusal (read (isVtg v)) = false
 isRefusal (read (isOther k)) = false
 isRefusal (read (isRefused r)) = true
 
@@ -41,6 +44,9 @@ isAccepted blank = false
 isAccepted (read (isRmc r)) = true
 isAccepted (read (isGsa g)) = true
 isAccepted (read (isGsv s)) = true
+isAccepted (read (isGga g)) = true
+isAccepted (read (isGll g)) = true
+isAccepted (read (isVtg v)) = true
 isAccepted (read (isOther k)) = true
 isAccepted (read (isRefused r)) = false
 
@@ -50,6 +56,9 @@ acceptedGsv blank = none
 acceptedGsv (read (isRmc r)) = none
 acceptedGsv (read (isGsa g)) = none
 acceptedGsv (read (isGsv s)) = some s
+acceptedGsv (read (isGga g)) = none
+acceptedGsv (read (isGll g)) = none
+acceptedGsv (read (isVtg v)) = none
 acceptedGsv (read (isOther k)) = none
 acceptedGsv (read (isRefused r)) = none
 

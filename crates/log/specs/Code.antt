@@ -5,7 +5,7 @@ use mathlib.Core.List.{List, []}
 use mathlib.Core.Bool.{Bool, false}
 use lib.ListN.{length, take, drop}
 use Rattle.gsa.specs.Answer.{row}
-use Rattle.answer.specs.Sentence.{isRmc, isGsa, isGsv, isOther, isRefused}
+use Rattle.answer.specs.Sentence.{isRmc, isGsa, isGsv, isGga, isGll, isVtg, isOther, isRefused}
 use Rattle.lines.specs.Lines.{lineFeed}
 use Rattle.lines.specs.Places.{lineAt, nextPlace, stretch}
 use Rattle.gather.specs.declared.line.Outcome.the-variants.{Nothing}
@@ -50,6 +50,9 @@ sortOf blank = Blank
 sortOf (read (isRmc r)) = Accepted
 sortOf (read (isGsa g)) = Accepted
 sortOf (read (isGsv s)) = Accepted
+sortOf (read (isGga g)) = Accepted
+sortOf (read (isGll g)) = Accepted
+sortOf (read (isVtg v)) = Accepted
 sortOf (read (isOther k)) = Accepted
 sortOf (read (isRefused r)) = Refused
 

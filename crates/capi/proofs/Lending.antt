@@ -11,7 +11,7 @@ use lib.ListN.{length, drop, getD, set, replicate, length-set, length-append, le
 use lib.Seq.{sets, sets-eq}
 use Rattle.gsv.specs.Gsv.{Satellite}
 use Rattle.gsv.specs.Talker.{systemNumber}
-use Rattle.answer.specs.Sentence.{Answer, isRmc, isGsa, isGsv, isOther, isRefused, answer}
+use Rattle.answer.specs.Sentence.{Answer, isRmc, isGsa, isGsv, isGga, isGll, isVtg, isOther, isRefused, answer}
 use Rattle.rows.specs.Key.{Source, sourceFrom, rowFrom, rowCount}
 use Rattle.gather.specs.Words.{cellCount, numberOf, satAt, satsFrom}
 use Rattle.gather.specs.Table.{tableWords, freshTable, rowOf}
@@ -57,6 +57,9 @@ by-answer : (a : Answer) (t : List ℕ) → codeIn (briefOf a) (gathers t (gsvIn
 by-answer (isRmc r) t = refl
 by-answer (isGsa g) t = refl
 by-answer (isGsv s) t = refl
+by-answer (isGga g) t = refl
+by-answer (isGll g) t = refl
+by-answer (isVtg v) t = refl
 by-answer (isOther k) t = refl
 by-answer (isRefused x) t = refl
 

@@ -9,7 +9,7 @@ use mathlib.Core.Option.{none}
 use borrow.Author.Tests.{le-leb, lt-leb}
 use lib.Dec.{leb}
 use lib.ListN.{length, drop}
-use Rattle.answer.specs.Sentence.{Answer, isRmc, isGsa, isGsv, isOther, isRefused, verdictOf, answer}
+use Rattle.answer.specs.Sentence.{Answer, isRmc, isGsa, isGsv, isGga, isGll, isVtg, isOther, isRefused, verdictOf, answer}
 use Rattle.answer.proofs.Numbered.{Numbered, numbered as numbered-line}
 use Rattle.words.specs.Words.{wordCount, refusalNumber, words, into}
 use Rattle.core.specs.Brief as briefs
@@ -28,6 +28,9 @@ number-is : (a : Answer) → numberIn (briefOf a) ≡ refusalNumber a
 number-is (isRmc r) = refl
 number-is (isGsa g) = refl
 number-is (isGsv g) = refl
+number-is (isGga g) = refl
+number-is (isGll g) = refl
+number-is (isVtg v) = refl
 number-is (isOther k) = refl
 number-is (isRefused r) = refl
 
@@ -35,6 +38,9 @@ none-zero : (a : Answer) → verdictOf a ≡ none → refusalNumber a ≡ 0
 none-zero (isRmc r) e = refl
 none-zero (isGsa g) e = refl
 none-zero (isGsv g) e = refl
+none-zero (isGga g) e = refl
+none-zero (isGll g) e = refl
+none-zero (isVtg v) e = refl
 none-zero (isOther k) e = refl
 none-zero (isRefused r) e = let z : _≡_ {A = ℕ} 0 1 = cc in absurd (omega arith)
 
@@ -42,6 +48,9 @@ accepted : (a : Answer) → Numbered 9 a → refusalNumber a ≡ 0 → verdictOf
 accepted (isRmc r) h e = refl
 accepted (isGsa g) h e = refl
 accepted (isGsv g) h e = refl
+accepted (isGga g) h e = refl
+accepted (isGll g) h e = refl
+accepted (isVtg v) h e = refl
 accepted (isOther k) h e = refl
 accepted (isRefused r) h e = absurd (omega (arith, h .0, e))
 
@@ -49,6 +58,9 @@ at-most : (a : Answer) → Numbered 9 a → refusalNumber a ≤ 9
 at-most (isRmc r) h = omega arith
 at-most (isGsa g) h = omega arith
 at-most (isGsv g) h = omega arith
+at-most (isGga g) h = omega arith
+at-most (isGll g) h = omega arith
+at-most (isVtg v) h = omega arith
 at-most (isOther k) h = omega arith
 at-most (isRefused r) h = h .1
 

@@ -7,7 +7,7 @@ use mathlib.Core.List.{List}
 use Rattle.frame.specs.Refused.{Refused}
 use Rattle.frame.specs.Answer.{refused}
 use Rattle.frame.specs.declared.refusal.Refusal.{Refusal}
-use Rattle.answer.specs.Sentence.{Answer, isRmc, isGsa, isGsv, isOther, isRefused}
+use Rattle.answer.specs.Sentence.{Answer, isRmc, isGsa, isGsv, isGga, isGll, isVtg, isOther, isRefused}
 use Rattle.words.specs.Words.{words, into}
 use Rattle.words.specs.Refused.{refusedWords}
 use Rattle.core.specs.Brief.{Brief, accepted, gsvLine, refusal, briefOf}
@@ -25,6 +25,9 @@ is-record : (out : List ℕ) (a : Answer) → NoRefusal (briefOf a) → recordIn
 is-record out (isRmc r) n = refl
 is-record out (isGsa g) n = refl
 is-record out (isGsv g) n = refl
+is-record out (isGga g) n = refl
+is-record out (isGll g) n = refl
+is-record out (isVtg v) n = refl
 is-record out (isOther k) n = refl
 is-record out (isRefused x) n = absurd n
 
@@ -32,6 +35,9 @@ is-refused : (a : Answer) {x : Refused} → refusal x ≡ briefOf a → isRefuse
 is-refused (isRmc r) e = let z : _≡_ {A = ℕ} 0 1 = cc in absurd (omega arith)
 is-refused (isGsa g) e = let z : _≡_ {A = ℕ} 0 1 = cc in absurd (omega arith)
 is-refused (isGsv g) e = let z : _≡_ {A = ℕ} 0 1 = cc in absurd (omega arith)
+is-refused (isGga g) e = let z : _≡_ {A = ℕ} 0 1 = cc in absurd (omega arith)
+is-refused (isGll g) e = let z : _≡_ {A = ℕ} 0 1 = cc in absurd (omega arith)
+is-refused (isVtg v) e = let z : _≡_ {A = ℕ} 0 1 = cc in absurd (omega arith)
 is-refused (isOther k) e = let z : _≡_ {A = ℕ} 0 1 = cc in absurd (omega arith)
 is-refused (isRefused y) {x} e = let z : x ≡ y = cc in ap isRefused z
 

@@ -3,12 +3,12 @@ use Prim.Native.Nat.{ℕ, _*_}
 use mathlib.Core.Path.{_≡_, refl, ap, sym, _∙_, subst}
 use mathlib.Core.List.{List, _++_}
 use mathlib.Core.Bool.{Bool, true, false, _||_, cond, true≢false}
+use mathlib.Core.Option.{Option, none}
 use lib.Dec.{eqb, leb}
 use lib.ListN.{length, drop}
 use lib.Seq.{sets}
 use Rattle.frame.specs.Answer.{talkerBytes, refused}
 use Rattle.frame.specs.declared.refusal.Refusal.{Refusal}
-use Rattle.frame.specs.declared.refusal.Kind.{Kind}
 use Rattle.frame.specs.declared.refusal.Talker as Code
 use Rattle.gsa.specs.Answer.{row, gsaOf}
 use Rattle.gsa.specs.declared.GsaHead.{GsaHead}
@@ -17,22 +17,20 @@ use Rattle.gsv.specs.Answer.{talker, headOf, gsvSentence}
 use Rattle.gsv.specs.declared.GsvHead.{GsvHead}
 use Rattle.gsv.specs.declared.GsvRecord.{GsvRecord}
 use Rattle.gsv.specs.declared.GsvTalker.{GsvTalker}
-use Rattle.rmc.specs.declared.RmcData.{RmcData}
 use Rattle.rows.specs.Line.{lineOf}
 use Rattle.gather.specs.Put.{outcomeOf as outcomeAt, rowAfter}
 use Rattle.gather.specs.Table.{tableWords, rowOf, Gathers}
 use Rattle.gather.specs.Words.{rowWords}
 use Rattle.gather.specs.declared.line.Outcome.{Outcome}
 use Rattle.gather.specs.declared.line.Outcome.the-variants.{NoRow}
-use Rattle.answer.specs.Sentence.{Answer, isRmc, isGsa, isGsv, isOther, isRefused}
-use Rattle.words.specs.Words.{wordCount, into}
-use Rattle.words.specs.Rmc.{rmcWords}
+use Rattle.fed.specs.Line.{gathers}
+use Rattle.answer.specs.Sentence.{Answer, isGsa, isGsv, isRefused}
+use Rattle.words.specs.Words.{wordCount, words, into}
 use Rattle.words.specs.Gsv.{gsvWords}
-use Rattle.words.specs.Other.{otherWords}
-use Rattle.words.specs.Answer.{rmcSentence, otherSentence, gsaRow}
+use Rattle.words.specs.Answer.{gsaRow}
 use Rattle.words.proofs.Cells.{gsa-words}
-use Rattle.core.specs.Brief.{gsvLine, briefOf}
-use Rattle.core.specs.Code.{Tells}
+use Rattle.core.specs.Brief.{accepted, gsvLine, briefOf, gsvIn}
+use Rattle.core.specs.Code.{recordInto, Tells}
 use Rattle.core.specs.declared.Taken.{Taken}
 use Rattle.core.specs.declared.Taken.the-variants.{Accepted, Gsv, Refused}
 
@@ -45,21 +43,23 @@ module _ {a : Answer} {out t : List ℕ} where
   not-taken why e =
       as-answer e (record { says = refl; words = refl; table = refl; handed = refl })
 
-  pub rmc-taken : {o : List ℕ} (s : Code.Talker) (d : RmcData) → isRmc (rmcSentence s d) ≡ a → o ≡ into (rmcWords (rmcSentence s d)) out
-      → Tells a out o t t Accepted
-  rmc-taken {o} s d e w =
-      as-answer e (record { says = refl; words = w; table = refl; handed = refl })
+  -- a record that no table asks for
+  pub quiet-taken : (b : Answer) {o : List ℕ} → accepted ≡ briefOf b → into (words b) out ≡ recordInto b out → none ≡ gsvIn b → b ≡ a
+      → o ≡ into (words b) out → Tells a out o t t Accepted
+  quiet-taken b f g n e w =
+      as-answer e
+      (record {
+        says = f;
+        words = w ∙ g;
+        table = ap (λ (x : Option GsvSentence). gathers t x .gatherer) n;
+        handed = ap (λ (x : Option GsvSentence). gathers t x .handed) n;
+      })
 
   pub gsa-taken : {o : List ℕ} (s : Code.Talker) (h : GsaHead) (cells : List ℕ) (count : ℕ) (xs : List ℕ) → cells ≡ row xs → count ≡ length xs
       → isGsa (record { talker = talkerBytes s; body = gsaOf xs h }) ≡ a → o ≡ into (gsaRow s h cells count) out → Tells a out o t t Accepted
   gsa-taken {o} s h cells count xs f n e w =
       as-answer e
       (record { says = refl; words = w ∙ ap (λ (ws : List ℕ). into ws out) (gsa-words cells count xs s h f n); table = refl; handed = refl })
-
-  pub other-taken : {o : List ℕ} (s : Code.Talker) (k : Kind) → isOther (otherSentence s k) ≡ a → o ≡ into (otherWords (otherSentence s k)) out
-      → Tells a out o t t Accepted
-  other-taken {o} s k e w =
-      as-answer e (record { says = refl; words = w; table = refl; handed = refl })
 
   -- a GSV line whose entries were read
   pub gsv-taken : {o t′ : List ℕ} (s : GsvTalker) (h : GsvHead) (g : GsvRecord) (r : Outcome) → isGsv (gsvSentence g) ≡ a

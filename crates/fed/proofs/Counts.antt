@@ -4,7 +4,7 @@ use native.Mathlib.Omega.{arith}
 use mathlib.Core.Path.{_≡_, refl}
 use mathlib.Core.List.{List, [], _∷_}
 use lib.ListN.{length}
-use Rattle.answer.specs.Sentence.{isRmc, isGsa, isGsv, isOther, isRefused}
+use Rattle.answer.specs.Sentence.{isRmc, isGsa, isGsv, isGga, isGll, isVtg, isOther, isRefused}
 use Rattle.fed.specs.Line.{LogLine, blank, read, isBlank, isAccepted, isRefusal}
 use Rattle.fed.specs.Fed.{onceIf, howMany}
 
@@ -13,6 +13,9 @@ one-of-three blank = refl
 one-of-three (read (isRmc r)) = refl
 one-of-three (read (isGsa g)) = refl
 one-of-three (read (isGsv s)) = refl
+one-of-three (read (isGga g)) = refl
+one-of-three (read (isGll g)) = refl
+one-of-three (read (isVtg v)) = refl
 one-of-three (read (isOther k)) = refl
 one-of-three (read (isRefused r)) = refl
 

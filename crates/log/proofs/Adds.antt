@@ -12,7 +12,7 @@ use Rattle.gsv.specs.Answer.{gsvSentence}
 use Rattle.sentence.specs.Answer.{recordOf}
 use Rattle.sentence.specs.declared.Record.{Record}
 use Rattle.gsv.specs.declared.GsvRecord.{GsvRecord}
-use Rattle.answer.specs.Sentence.{isRmc, isGsa, isGsv, isOther, isRefused}
+use Rattle.answer.specs.Sentence.{isRmc, isGsa, isGsv, isGga, isGll, isVtg, isOther, isRefused}
 use Rattle.sentence.specs.declared.Record.the-variants.{Rmc, Gsa, Gsv, Other, Refused}
 use Rattle.fed.specs.Line.{LogLine, blank, read, saidOf, acceptedGsv}
 use Rattle.log.specs.declared.line.Line as Code
@@ -44,6 +44,9 @@ module _ (c : Counts) (next : ℕ) where
   by-sort (read (isRmc r)) = one-accepted
   by-sort (read (isGsa g)) = one-accepted
   by-sort (read (isGsv s)) = one-accepted
+  by-sort (read (isGga g)) = one-accepted
+  by-sort (read (isGll g)) = one-accepted
+  by-sort (read (isVtg v)) = one-accepted
   by-sort (read (isOther k)) = one-accepted
   by-sort (read (isRefused r)) = λ i. record { lines = c .lines + 1; blank = zero' (c .blank) i; accepted = zero' (c .accepted) i; refused = c .refused + 1; groups = c .groups; next = next }
 

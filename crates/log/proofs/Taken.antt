@@ -13,7 +13,7 @@ use Rattle.gsv.specs.Gsv.{Head, GsvSentence}
 use Rattle.gsv.specs.Answer.{talker, headOf}
 use Rattle.gsv.specs.declared.GsvHead.{GsvHead}
 use Rattle.gsv.specs.declared.GsvTalker.{GsvTalker}
-use Rattle.answer.specs.Sentence.{Answer, isRmc, isGsa, isGsv, isOther, isRefused, answer}
+use Rattle.answer.specs.Sentence.{Answer, isRmc, isGsa, isGsv, isGga, isGll, isVtg, isOther, isRefused, answer}
 use Rattle.lines.specs.Places.{lineAt, nextPlace}
 use Rattle.rows.specs.Key.{sourceFrom, rowFrom}
 use Rattle.rows.specs.Line.{lineOf}
@@ -43,6 +43,9 @@ sort-in : (a : Answer) → sortIn (briefOf a) ≡ sortOf (read a)
 sort-in (isRmc r) = refl
 sort-in (isGsa g) = refl
 sort-in (isGsv s) = refl
+sort-in (isGga g) = refl
+sort-in (isGll g) = refl
+sort-in (isVtg v) = refl
 sort-in (isOther k) = refl
 sort-in (isRefused x) = refl
 
@@ -56,6 +59,9 @@ no-gsv : (a : Answer) → NoGsv (briefOf a) → none ≡ acceptedGsv (read a)
 no-gsv (isRmc r) n = refl
 no-gsv (isGsa g) n = refl
 no-gsv (isGsv s) n = absurd n
+no-gsv (isGga g) n = refl
+no-gsv (isGll g) n = refl
+no-gsv (isVtg v) n = refl
 no-gsv (isOther k) n = refl
 no-gsv (isRefused x) n = refl
 
@@ -70,6 +76,9 @@ is-gsv : (a : Answer) {t : Talker} {h : Head} → gsvLine t h ≡ briefOf a → 
 is-gsv (isRmc r) e = let z : _≡_ {A = ℕ} 0 1 = cc in absurd (omega arith)
 is-gsv (isGsa g) e = let z : _≡_ {A = ℕ} 0 1 = cc in absurd (omega arith)
 is-gsv (isGsv s) e = record { sentence = s; is = refl; talks = cc; heads = cc }
+is-gsv (isGga g) e = let z : _≡_ {A = ℕ} 0 1 = cc in absurd (omega arith)
+is-gsv (isGll g) e = let z : _≡_ {A = ℕ} 0 1 = cc in absurd (omega arith)
+is-gsv (isVtg v) e = let z : _≡_ {A = ℕ} 0 1 = cc in absurd (omega arith)
 is-gsv (isOther k) e = let z : _≡_ {A = ℕ} 0 1 = cc in absurd (omega arith)
 is-gsv (isRefused x) e = let z : _≡_ {A = ℕ} 0 1 = cc in absurd (omega arith)
 

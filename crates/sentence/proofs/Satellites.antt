@@ -9,6 +9,9 @@ use Rattle.frame.specs.Frame.{Parts}
 use Rattle.frame.specs.Answer.{parts, dataOf}
 use Rattle.frame.specs.declared.sentence.Sentence.{Sentence}
 use Rattle.rmc.specs.Rmc.{rmc}
+use Rattle.gga.specs.Gga.{gga}
+use Rattle.gll.specs.Gll.{gll}
+use Rattle.vtg.specs.Vtg.{vtg}
 use Rattle.gsv.specs.Talker.{Talker}
 use Rattle.gsv.specs.Gsv.{gsv}
 use Rattle.gsa.specs.System.{settle}
@@ -19,7 +22,7 @@ use Rattle.gsa.specs.declared.GsaAnswer.{GsaAnswer}
 use Rattle.gsa.specs.declared.GsaAnswer.the-variants.{Is as AGsa}
 use Rattle.gsa.specs.declared.GsaHead.{GsaHead}
 use Rattle.gsa.specs.declared.Settled.{Settled}
-use Rattle.answer.specs.Sentence.{Answer, isGsa, orRefused, asRmc, rmcOf, gsaNames, settledGsa, asGsa, gsaOf, asGsv, gsvBy, gsvOf, gsvNames}
+use Rattle.answer.specs.Sentence.{Answer, isGsa, orRefused, asRmc, rmcOf, asGga, ggaOf, asGll, gllOf, asVtg, vtgOf, gsaNames, settledGsa, asGsa, gsaOf, asGsv, gsvBy, gsvOf, gsvNames}
 use Rattle.sentence.specs.Answer.{gsaSentence, recordOf, satellitesOf, Says}
 use Rattle.sentence.specs.Code.{alone}
 use Rattle.sentence.specs.declared.GsaRecord.{GsaRecord}
@@ -45,6 +48,15 @@ none-read f h (is d) = h d
 
 pub rmc-none : (p : Parts) → satellitesOf (rmcOf p) ≡ []
 rmc-none p = none-read (asRmc (p .talker)) (λ d. refl) (value (rmc (p .text)))
+
+pub gga-none : (p : Parts) → satellitesOf (ggaOf p) ≡ []
+gga-none p = none-read (asGga (p .talker)) (λ d. refl) (value (gga (p .text)))
+
+pub gll-none : (p : Parts) → satellitesOf (gllOf p) ≡ []
+gll-none p = none-read (asGll (p .talker)) (λ d. refl) (value (gll (p .text)))
+
+pub vtg-none : (p : Parts) → satellitesOf (vtgOf p) ≡ []
+vtg-none p = none-read (asVtg (p .talker)) (λ d. refl) (value (vtg (p .text)))
 
 pub gsv-none : (p : Parts) → satellitesOf (gsvOf p) ≡ []
 gsv-none p = by (gsvNames (p .talker))

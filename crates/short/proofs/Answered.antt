@@ -13,7 +13,10 @@ use Rattle.gsv.specs.Gsv.{Gsv, gsv, GsvSentence}
 use Rattle.gsa.specs.System.{Settled, absent, is as settledAs, mismatch, settle}
 use Rattle.gsa.specs.Gsa.{Gsa, gsa}
 use Rattle.rmc.specs.Rmc.{rmc}
-use Rattle.answer.specs.Sentence.{Answer, isGsv, orRefused, asRmc, settledGsa, gsaNames, asGsa, gsvNames, asGsv, gsvBy, framedBy, Formatter, rmcType, gsaType, gsvType, otherType, formatterOf, readAs, dispatch, answer}
+use Rattle.gga.specs.Gga.{gga}
+use Rattle.gll.specs.Gll.{gll}
+use Rattle.vtg.specs.Vtg.{vtg}
+use Rattle.answer.specs.Sentence.{Answer, isGsv, orRefused, asRmc, asGga, asGll, asVtg, settledGsa, gsaNames, asGsa, gsvNames, asGsv, gsvBy, framedBy, Formatter, rmcType, gsaType, gsvType, ggaType, gllType, vtgType, otherType, formatterOf, readAs, dispatch, answer}
 
 -- the parts of the line, and what is left of its data
 pub record Answered (l : List ℕ) (h : GsvSentence) : Type 0 where
@@ -50,6 +53,9 @@ module _ (l : List ℕ) (h : GsvSentence) (p : Parts) (f : frame l ≡ accepted 
   by-type gsaType e =
       absurd (never (asGsa (p .talker)) h (λ g e. no-gsa h (p .talker) g (settle (gsaNames (p .talker)) (g .system)) e) (value (gsa (p .text))) e)
   by-type gsvType e = by-talker (gsvNames (p .talker)) e
+  by-type ggaType e = absurd (never (asGga (p .talker)) h (λ r e. let z : _≡_ {A = ℕ} 0 1 = cc in omega arith) (value (gga (p .text))) e)
+  by-type gllType e = absurd (never (asGll (p .talker)) h (λ r e. let z : _≡_ {A = ℕ} 0 1 = cc in omega arith) (value (gll (p .text))) e)
+  by-type vtgType e = absurd (never (asVtg (p .talker)) h (λ r e. let z : _≡_ {A = ℕ} 0 1 = cc in omega arith) (value (vtg (p .text))) e)
   by-type otherType e = let z : _≡_ {A = ℕ} 0 1 = cc in absurd (omega arith)
 
 pub answered : (l : List ℕ) (h : GsvSentence) → answer l ≡ isGsv h → Answered l h

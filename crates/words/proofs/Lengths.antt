@@ -11,12 +11,18 @@ use Rattle.fields.specs.Position.{LatLon}
 use Rattle.gsa.specs.Gsa.{Dops}
 use Rattle.gsv.specs.Gsv.{Satellite, Gsv, GsvSentence}
 use Rattle.frame.specs.Refused.{Refused}
-use Rattle.rmc.specs.Rmc.{Fix, Motion, Ending}
-use Rattle.answer.specs.Sentence.{RmcSentence, OtherSentence, Answer, isRmc, isGsa, isGsv, isOther, isRefused}
+use Rattle.rmc.specs.Rmc.{Fix, Motion, Ending, Rmc}
+use Rattle.gga.specs.Gga.{Fix as GgaFix, Height, Gga}
+use Rattle.gll.specs.Gll.{Gll}
+use Rattle.vtg.specs.Vtg.{Speed, Vtg}
+use Rattle.answer.specs.Sentence.{Sentence, OtherSentence, Answer, isRmc, isGsa, isGsv, isGga, isGll, isVtg, isOther, isRefused}
 use Rattle.words.specs.Part.{padded, optionWords, timeWords, dateWords, positionWords, shortWords, dopsWords}
 use Rattle.words.specs.Rmc.{fixWords, motionWords, endingWords, rmcWords}
 use Rattle.words.specs.Gsv.{entryWords, entriesWords, gsvWords}
 use Rattle.words.specs.Gsa.{gsaHead, gsaTail}
+use Rattle.words.specs.Gga.{fixWords as ggaFixWords, heightWords, ggaWords}
+use Rattle.words.specs.Gll.{fieldWords, gllWords}
+use Rattle.words.specs.Vtg.{speedWords, vtgWords}
 use Rattle.words.specs.Other.{otherWords}
 use Rattle.words.specs.Refused.{refusedWords}
 use Rattle.words.specs.Words.{wordCount, words}
@@ -70,8 +76,21 @@ entry-eight (some s) = simp (length-append, option-two) refl
 pub entries-all : (b : Gsv) → length (entriesWords b) ≡ 32
 entries-all b = simp (length-append, entry-eight) refl
 
+pub gga-fix-seventeen : (f : GgaFix) → length (ggaFixWords f) ≡ 17
+gga-fix-seventeen f = simp (length-append, time-five, position-nine, option-two) refl
+
+pub height-fifteen : (h : Height) → length (heightWords h) ≡ 15
+height-fifteen h = simp (length-append, short-five) refl
+
+pub fields-sixteen : (g : Gll) → length (fieldWords g) ≡ 16
+fields-sixteen g = simp (length-append, time-five, position-nine) refl
+
+pub speed-seven : (s : Option Speed) → length (speedWords s) ≡ 7
+speed-seven none = refl
+speed-seven (some s) = refl
+
 -- every record has forty words
-pub rmc-forty : (r : RmcSentence) → length (rmcWords r) ≡ wordCount
+pub rmc-forty : (r : Sentence Rmc) → length (rmcWords r) ≡ wordCount
 rmc-forty r = simp (length-append, padded-long, time-five, position-nine, short-five, date-four) refl
 
 pub gsa-forty : (t : List ℕ) (m f : ℕ) (s : Option ℕ) (d : Option Dops) (n : ℕ) (cells : List ℕ) → length (gsaHead t m f s d ++ gsaTail n cells) ≡ wordCount
@@ -79,6 +98,15 @@ gsa-forty t m f s d n cells = simp (length-append, padded-long, dops-thirteen) r
 
 pub gsv-forty : (g : GsvSentence) → length (gsvWords g) ≡ wordCount
 gsv-forty g = simp (length-append, padded-long, entry-eight) refl
+
+pub gga-forty : (g : Sentence Gga) → length (ggaWords g) ≡ wordCount
+gga-forty g = simp (length-append, padded-long, time-five, position-nine, option-two, short-five) refl
+
+pub gll-forty : (g : Sentence Gll) → length (gllWords g) ≡ wordCount
+gll-forty g = simp (length-append, padded-long, time-five, position-nine) refl
+
+pub vtg-forty : (v : Sentence Vtg) → length (vtgWords v) ≡ wordCount
+vtg-forty v = simp (length-append, padded-long, short-five, speed-seven) refl
 
 pub other-forty : (o : OtherSentence) → length (otherWords o) ≡ wordCount
 other-forty o = simp (length-append, padded-long) refl
@@ -92,5 +120,8 @@ words-forty (isRmc r) = rmc-forty r
 words-forty (isGsa g) =
     gsa-forty (g .talker) (g .body .mode) (g .body .fix) (g .body .system) (g .body .dops) (length (g .body .satellites)) (g .body .satellites)
 words-forty (isGsv g) = gsv-forty g
+words-forty (isGga g) = gga-forty g
+words-forty (isGll g) = gll-forty g
+words-forty (isVtg v) = vtg-forty v
 words-forty (isOther o) = other-forty o
 words-forty (isRefused r) = refused-forty r

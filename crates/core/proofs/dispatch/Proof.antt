@@ -5,13 +5,13 @@ use Prim.Native.Nat.{ℕ}
 use denote.Ref.{now}
 use Rattle.frame.specs.Frame.{Parts}
 use Rattle.frame.specs.Answer.{parts}
-use Rattle.answer.specs.Sentence.{readAs, dispatch}
+use Rattle.answer.specs.Sentence.{isOther, readAs, dispatch}
 use Rattle.sentence.specs.Answer.{formatter}
 use Rattle.sentence.specs.declared.Formatter.{Formatter}
 use Rattle.sentence.proofs.Told.{dispatched}
 use Rattle.core.specs.Code.{Tells}
 use Rattle.core.specs.declared.Taken.{Taken}
-use Rattle.core.proofs.Tells.{as-answer, other-taken}
+use Rattle.core.proofs.Tells.{as-answer, quiet-taken}
 use borrow.Author.Needs.{needs}
 use Rattle.core.proofs.dispatch.Statement.{statement}
 use Rattle.core.proofs.dispatch.Tie as tie
@@ -35,12 +35,25 @@ returns-3 c =
     by-type (k .before .before .before .before .before) (k .before .before .before .enum-told3 .given .1) (k .take-gsv .ensures)
 
 returns-4 : tie.Need-returns-4
-returns-4 c =
+returns-4 c = let k = c .before .before in by-type (k .before .before .before .before) (k .before .before .enum-told4 .given .1) (k .take-gga .ensures _)
+
+returns-5 : tie.Need-returns-5
+returns-5 c = let k = c .before .before in by-type (k .before .before .before .before) (k .before .before .enum-told5 .given .1) (k .take-gll .ensures _)
+
+returns-6 : tie.Need-returns-6
+returns-6 c = let k = c .before .before in by-type (k .before .before .before .before) (k .before .before .enum-told6 .given .1) (k .take-vtg .ensures _)
+
+returns-7 : tie.Need-returns-7
+returns-7 c =
     let k = c .before .before in
-    by-type (k .before .before .before .before) (k .before .before .enum-told4 .given .1) (other-taken _ _ refl (k .put-other .ensures))
+    let f = k .before .before .before .before in
+    by-type f (k .before .before .enum-told7 .given .1)
+    (quiet-taken (isOther (record { talker = framed f .talker; kind = framed f .kind })) refl refl refl refl (k .put-other .ensures))
 
 pub dispatch-spec : {M : Type 1} → statement M
 dispatch-spec = tie.close (tie.spec
     (λ c κs. search needs) (λ c. search needs) (λ c κs. search needs) (λ c. search needs) (λ c κs. search needs) (λ c. search needs)
+    (λ c κs. search needs) (λ c. search needs) (λ c κs. search needs) (λ c. search needs) (λ c κs. search needs) (λ c. search needs)
     (λ c κs. search needs) (λ c. search needs) (λ c κs. search needs) (λ c. search needs) returns (λ c. search needs) returns-2
-    (λ c. search needs) (λ c. search needs) returns-3 (λ c. search needs) returns-4)
+    (λ c. search needs) (λ c. search needs) returns-3 (λ c. search needs) returns-4 (λ c. search needs) returns-5 (λ c. search needs)
+    returns-6 (λ c. search needs) returns-7)

@@ -1,14 +1,15 @@
 -- `take_rmc` meets its contract: what the reader of the data says, in words where it is a record. Assumes nothing.
-use mathlib.Core.Path.{_≡_}
+use mathlib.Core.Path.{_≡_, refl}
 use denote.Ref.{now}
 use Rattle.frame.specs.Answer.{talkerBytes, parts}
 use Rattle.frame.specs.declared.refusal.Refusal.the-variants.{Syntax, Number, BadTime}
 use Rattle.rmc.specs.Rmc.{rmc}
 use Rattle.rmc.specs.Answer.{rmcRead}
 use Rattle.rmc.specs.declared.RmcRead.{RmcRead}
-use Rattle.answer.specs.Sentence.{orRefused, asRmc, rmcOf}
+use Rattle.answer.specs.Sentence.{isRmc, orRefused, asRmc, rmcOf}
+use Rattle.words.specs.Answer.{rmcSentence}
 use Rattle.sentence.proofs.Told.{data-says}
-use Rattle.core.proofs.Tells.{not-taken, rmc-taken}
+use Rattle.core.proofs.Tells.{not-taken, quiet-taken}
 use borrow.Author.Needs.{needs}
 use Rattle.core.proofs.take_rmc.Statement.{statement}
 use Rattle.core.proofs.take_rmc.Tie as tie
@@ -22,7 +23,7 @@ says c e =
 returns-2 : tie.Need-returns-2
 returns-2 c t =
     let d = c .before .before .before .before .before in
-    rmc-taken _ (d .d .given .0 .0) (says (d .before .before) (d .d .given .1)) (c .before .before .put-rmc .ensures)
+    quiet-taken (isRmc (rmcSentence _ (d .d .given .0 .0))) refl refl refl (says (d .before .before) (d .d .given .1)) (c .before .before .put-rmc .ensures)
 
 pub take-rmc-spec : {M : Type 1} → statement M
 take-rmc-spec = tie.close (tie.spec

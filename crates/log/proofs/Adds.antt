@@ -13,7 +13,7 @@ use Rattle.sentence.specs.Answer.{recordOf}
 use Rattle.sentence.specs.declared.Record.{Record}
 use Rattle.gsv.specs.declared.GsvRecord.{GsvRecord}
 use Rattle.answer.specs.Sentence.{isRmc, isGsa, isGsv, isGga, isGll, isVtg, isOther, isRefused}
-use Rattle.sentence.specs.declared.Record.the-variants.{Rmc, Gsa, Gsv, Other, Refused}
+use Rattle.sentence.specs.declared.Record.the-variants.{Rmc, Gsa, Gsv, Gga, Gll, Vtg, Other, Refused}
 use Rattle.fed.specs.Line.{LogLine, blank, read, saidOf, acceptedGsv}
 use Rattle.log.specs.declared.line.Line as Code
 use Rattle.log.specs.declared.line.Line.the-variants.{Blank, Read}
@@ -28,6 +28,9 @@ gsv-beside xs Blank = refl
 gsv-beside xs (Read (Rmc r)) = refl
 gsv-beside xs (Read (Gsa g)) = refl
 gsv-beside xs (Read (Gsv g)) = refl
+gsv-beside xs (Read (Gga g)) = refl
+gsv-beside xs (Read (Gll g)) = refl
+gsv-beside xs (Read (Vtg v)) = refl
 gsv-beside xs (Read (Other k)) = refl
 gsv-beside xs (Read (Refused r)) = refl
 

@@ -1,6 +1,6 @@
 use nmea::sentences::{gnss_type::GnssSystemId, GnssType};
 
-use crate::{Gsa, Gsv, Refusal, Rmc};
+use crate::{Gga, Gll, Gsa, Gsv, Refusal, Rmc, Vtg};
 
 /// The bits of an `f32`. They tell minus zero from zero, which `==` on the
 /// float does not.
@@ -18,6 +18,9 @@ pub enum Answer {
     Rmc(Rmc),
     Gsa(Gsa),
     Gsv(Gsv),
+    Gga(Gga),
+    Gll(Gll),
+    Vtg(Vtg),
     /// A right sentence of a known type that is not read.
     Other(TypeName),
     Refused(Refusal),
@@ -39,7 +42,10 @@ impl Answer {
             Answer::Rmc(_) => 11,
             Answer::Gsa(_) => 12,
             Answer::Gsv(_) => 13,
-            Answer::Other(_) => 14,
+            Answer::Gga(_) => 14,
+            Answer::Gll(_) => 15,
+            Answer::Vtg(_) => 16,
+            Answer::Other(_) => 17,
         })
     }
 }
@@ -49,7 +55,7 @@ impl Answer {
 pub struct Class(u8);
 
 impl Class {
-    const NAMES: [&str; 15] = [
+    const NAMES: [&str; 18] = [
         "1 BadUtf8",
         "2 NotAscii",
         "3 TooLong",
@@ -64,6 +70,9 @@ impl Class {
         "RMC",
         "GSA",
         "GSV",
+        "GGA",
+        "GLL",
+        "VTG",
         "Other",
     ];
 

@@ -1,8 +1,8 @@
 //! What only our answers have.
 
-use std::ops::Neg;
+use std::{array, ops::Neg};
 
-use crate::{fields::Fields, Answer, Entry, F32Bits, F64Bits, Gsv, Rmc};
+use crate::{fields::Fields, Answer, Entry, F32Bits, F64Bits, Gsv};
 
 /// A short decimal.
 #[derive(Clone, Copy, Debug, PartialEq, Eq)]
@@ -28,6 +28,16 @@ pub struct Coordinate {
     pub bits: F64Bits,
 }
 
+/// A speed as VTG writes it.
+#[derive(Clone, Copy, Debug, PartialEq, Eq)]
+pub struct Speed {
+    /// N for knots, K for km/h.
+    pub unit: char,
+    pub written: Decimal,
+    /// The float in knots.
+    pub knots: F32Bits,
+}
+
 /// An entry of GSV in whole numbers.
 #[derive(Clone, Copy, Debug, PartialEq, Eq)]
 pub struct WholeEntry {
@@ -44,8 +54,10 @@ pub struct Exact {
     pub talker: Option<[u8; 2]>,
     /// Latitude and longitude.
     pub position: Option<[Coordinate; 2]>,
-    /// Speed, course and variation, or PDOP, HDOP and VDOP.
+    /// Speed, course and variation; PDOP, HDOP and VDOP; HDOP, altitude and geoid
+    /// separation; or the true course alone.
     pub decimals: [Option<Decimal>; 3],
+    pub speed: Option<Speed>,
     pub entries: [Option<WholeEntry>; 4],
 }
 
@@ -54,13 +66,44 @@ impl Exact {
     /// answer says which parts are there. None if the text has no such parts.
     pub(crate) fn expected(line: &[u8], answer: &Answer) -> Option<Self> {
         let exact = match answer {
-            Answer::Rmc(record) => Exact::of_rmc(&Fields::of(line)?, record)?,
+            Answer::Rmc(record) => {
+                let fields = Fields::of(line)?;
+                let [speed, course, variation] = fields.short_decimals();
+                let is_west = fields.get(10).starts_with('W');
+                Exact {
+                    position: position(&fields, 2, record.latitude.is_some())?,
+                    decimals: [
+                        Decimal::expected(speed, false),
+                        Decimal::expected(course, false),
+                        Decimal::expected(variation, is_west),
+                    ],
+                    ..Exact::default()
+                }
+            }
             Answer::Gsa(_) => Exact {
-                decimals: Fields::of(line)?
-                    .short_decimals()
-                    .map(|text| Decimal::expected(text, false)),
+                decimals: decimals(&Fields::of(line)?),
                 ..Exact::default()
             },
+            Answer::Gga(record) => {
+                let fields = Fields::of(line)?;
+                Exact {
+                    position: position(&fields, 1, record.latitude.is_some())?,
+                    decimals: decimals(&fields),
+                    ..Exact::default()
+                }
+            }
+            Answer::Gll(record) => Exact {
+                position: position(&Fields::of(line)?, 0, record.latitude.is_some())?,
+                ..Exact::default()
+            },
+            Answer::Vtg(_) => {
+                let fields = Fields::of(line)?;
+                Exact {
+                    decimals: decimals(&fields),
+                    speed: Speed::expected(fields.get(4), fields.get(5)),
+                    ..Exact::default()
+                }
+            }
             Answer::Gsv(record) => Exact::of_gsv(&Fields::of(line)?, record)?,
             Answer::Other(_) => Exact::default(),
             Answer::Refused(_) => return Some(Exact::default()),
@@ -68,26 +111,6 @@ impl Exact {
         Some(Exact {
             talker: Some([line[1], line[2]]),
             ..exact
-        })
-    }
-
-    fn of_rmc(fields: &Fields, record: &Rmc) -> Option<Self> {
-        let [speed, course, variation] = fields.short_decimals();
-        let position = match record.latitude {
-            Some(_) => Some([
-                Coordinate::expected(fields.get(2), 2, fields.get(3))?,
-                Coordinate::expected(fields.get(4), 3, fields.get(5))?,
-            ]),
-            None => None,
-        };
-        Some(Exact {
-            position,
-            decimals: [
-                Decimal::expected(speed, false),
-                Decimal::expected(course, false),
-                Decimal::expected(variation, fields.get(10).starts_with('W')),
-            ],
-            ..Exact::default()
         })
     }
 
@@ -105,6 +128,26 @@ impl Exact {
     }
 }
 
+/// The decimals of the fields, each with the sign of its text.
+fn decimals(fields: &Fields) -> [Option<Decimal>; 3] {
+    fields
+        .short_decimals()
+        .map(|text| Decimal::expected(text, false))
+}
+
+/// The position of the four fields from the first on, if it is there. None if
+/// they hold none.
+fn position(fields: &Fields, first: usize, is_there: bool) -> Option<Option<[Coordinate; 2]>> {
+    if !is_there {
+        return Some(None);
+    }
+    let [latitude, north, longitude, east] = array::from_fn(|index| fields.get(first + index));
+    Some(Some([
+        Coordinate::expected(latitude, 2, north)?,
+        Coordinate::expected(longitude, 3, east)?,
+    ]))
+}
+
 impl Decimal {
     /// The decimal of a plain text, with its sign turned for W. None if it is
     /// absent.
@@ -119,6 +162,31 @@ impl Decimal {
             digits,
             decimals: plain.decimals,
             bits: negated_if(is_negative, size).to_bits(),
+        })
+    }
+}
+
+impl Speed {
+    /// How many km/h a knot is.
+    const KNOT: f32 = 1.852;
+
+    /// The speed of a field of knots and of the one behind it, which has km/h
+    /// behind its letter or in its place. None if it is absent.
+    fn expected(knots: &str, behind: &str) -> Option<Self> {
+        let kilometres = behind.strip_prefix('N').unwrap_or(behind);
+        let (unit, text) = match knots {
+            "" => ('K', kilometres),
+            _ => ('N', knots),
+        };
+        let written = Decimal::expected(text, false)?;
+        let knots = match unit {
+            'K' => (f32::from_bits(written.bits) / Speed::KNOT).to_bits(),
+            _ => written.bits,
+        };
+        Some(Speed {
+            unit,
+            written,
+            knots,
         })
     }
 }

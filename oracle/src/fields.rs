@@ -44,11 +44,14 @@ impl<'a> Fields<'a> {
         &self.data[start..self.ends[index].into()]
     }
 
-    /// Speed, course and variation, or PDOP, HDOP and VDOP.
+    /// The texts of [`crate::Exact::decimals`].
     pub(crate) fn short_decimals(&self) -> [&'a str; 3] {
         let indices = match self.name {
             "RMC" => Some([6, 7, 9]),
             "GSA" => self.pdop().map(|pdop| [pdop, pdop + 1, pdop + 2]),
+            "GGA" => Some([7, 8, 10]),
+            // Behind the true course stand fields that are not kept, and the speed, which has a unit.
+            "VTG" => return [self.get(0), "", ""],
             _ => None,
         };
         indices.map_or([""; 3], |indices| indices.map(|index| self.get(index)))

@@ -63,6 +63,9 @@ fn is_listed(ours: &Refusal, theirs: &Answer) -> bool {
             theirs,
             Answer::Rmc(_)
                 | Answer::Gsa(_)
+                | Answer::Gga(_)
+                | Answer::Gll(_)
+                | Answer::Vtg(_)
                 | Answer::Refused(Refusal::Syntax | Refusal::SystemMismatch { .. })
         ),
     }

@@ -21,6 +21,9 @@ pub fn owed(line: &[u8]) -> Option<Refusal> {
     let read = match name {
         "RMC" => rmc(data),
         "GSA" => gsa(data),
+        "GGA" => gga(data),
+        "GLL" => gll(data),
+        "VTG" => vtg(data),
         _ => Ok(()),
     };
     (read == Err(Fault::Number)).then_some(Refusal::Number)
@@ -45,28 +48,11 @@ fn framed(line: &[u8]) -> Option<(&str, &str)> {
 
 /// RMC up to its last decimal, the variation.
 fn rmc(mut data: Cursor) -> Result<(), Fault> {
-    if !data.is_at_comma() {
-        let (hour, minute) = (data.number(2)?, data.number(2)?);
-        let seconds = data.filled(Limits::Long)?;
-        let whole = seconds.split('.').next().unwrap_or_default();
-        // No unsigned number has a minus: signed seconds are Syntax, minus zero too.
-        let second: u16 = whole.parse().map_err(|_| Fault::Syntax)?;
-        in_range(hour < 24 && minute < 60 && second < 60)?;
-    }
+    time(&mut data)?;
     data.comma()?;
     data.one_of("ADV")?;
     data.comma()?;
-    if !data.eats(",,,") {
-        data.number(2)?;
-        data.filled(Limits::Long)?;
-        data.comma()?;
-        data.one_of("NS")?;
-        data.comma()?;
-        data.number(3)?;
-        data.filled(Limits::Long)?;
-        data.comma()?;
-        data.one_of("EW")?;
-    }
+    position(&mut data)?;
     data.comma()?;
     data.decimal(Limits::Short)?;
     data.comma()?;
@@ -99,6 +85,77 @@ fn gsa(mut data: Cursor) -> Result<(), Fault> {
     data.comma()?;
     data.filled(Limits::Short)?;
     Ok(())
+}
+
+/// GGA up to its last decimal, the geoid separation.
+fn gga(mut data: Cursor) -> Result<(), Fault> {
+    time(&mut data)?;
+    data.comma()?;
+    position(&mut data)?;
+    data.comma()?;
+    data.one_of("012345678")?;
+    data.comma()?;
+    // The number of satellites or nothing.
+    data.eats_item().then_some(()).ok_or(Fault::Syntax)?;
+    data.decimal(Limits::Short)?;
+    data.comma()?;
+    data.decimal(Limits::Short)?;
+    data.comma()?;
+    data.eats("M");
+    data.comma()?;
+    data.decimal(Limits::Short)?;
+    Ok(())
+}
+
+/// GLL up to its last decimal, the seconds.
+fn gll(mut data: Cursor) -> Result<(), Fault> {
+    position(&mut data)?;
+    data.comma()?;
+    time(&mut data)
+}
+
+/// VTG up to its last decimal, the speed in km/h.
+fn vtg(mut data: Cursor) -> Result<(), Fault> {
+    for letter in ["T", "M"] {
+        data.decimal(Limits::Short)?;
+        data.comma()?;
+        data.eats(letter);
+        data.comma()?;
+    }
+    data.decimal(Limits::Short)?;
+    data.comma()?;
+    data.eats("N");
+    data.decimal(Limits::Short)?;
+    Ok(())
+}
+
+/// A time, or nothing before a comma.
+fn time(data: &mut Cursor) -> Result<(), Fault> {
+    if data.is_at_comma() {
+        return Ok(());
+    }
+    let (hour, minute) = (data.number(2)?, data.number(2)?);
+    let seconds = data.filled(Limits::Long)?;
+    let whole = seconds.split('.').next().unwrap_or_default();
+    // No unsigned number has a minus: signed seconds are Syntax, minus zero too.
+    let second: u16 = whole.parse().map_err(|_| Fault::Syntax)?;
+    in_range(hour < 24 && minute < 60 && second < 60)
+}
+
+/// A position, or the three commas of an absent one.
+fn position(data: &mut Cursor) -> Result<(), Fault> {
+    if data.eats(",,,") {
+        return Ok(());
+    }
+    data.number(2)?;
+    data.filled(Limits::Long)?;
+    data.comma()?;
+    data.one_of("NS")?;
+    data.comma()?;
+    data.number(3)?;
+    data.filled(Limits::Long)?;
+    data.comma()?;
+    data.one_of("EW")
 }
 
 fn in_range(is_in_range: bool) -> Result<(), Fault> {

@@ -2,11 +2,11 @@ use std::str;
 
 use nmea::{
     parse_bytes, parse_nmea_sentence,
-    sentences::{parse_gsa, parse_gsv, parse_rmc},
+    sentences::{parse_gga, parse_gll, parse_gsa, parse_gsv, parse_rmc, parse_vtg},
     Error, NmeaSentence, ParseResult,
 };
 
-use crate::{Answer, Gsa, Gsv, Refusal, Rmc};
+use crate::{Answer, Gga, Gll, Gsa, Gsv, Refusal, Rmc, Vtg};
 
 /// The crate's answer to a line, of whatever type it is.
 pub fn crate_answer(line: &[u8]) -> Answer {
@@ -14,6 +14,9 @@ pub fn crate_answer(line: &[u8]) -> Answer {
         Ok(ParseResult::RMC(data)) => Answer::Rmc(data.into()),
         Ok(ParseResult::GSA(data)) => Answer::Gsa(data.into()),
         Ok(ParseResult::GSV(data)) => Answer::Gsv(data.into()),
+        Ok(ParseResult::GGA(data)) => Answer::Gga(data.into()),
+        Ok(ParseResult::GLL(data)) => Answer::Gll(data.into()),
+        Ok(ParseResult::VTG(data)) => Answer::Vtg(data.into()),
         // The line was framed, so its type stands behind `$` and the talker.
         Ok(ParseResult::Unsupported(_)) | Err(Error::DisabledSentence | Error::Unsupported(_)) => {
             Answer::Other([line[3], line[4], line[5]])
@@ -36,6 +39,21 @@ pub fn crate_gsa(line: &[u8]) -> Result<Gsa, Refusal> {
 /// What the crate's reader of GSV alone answers to a line.
 pub fn crate_gsv(line: &[u8]) -> Result<Gsv, Refusal> {
     read_one(line, parse_gsv)
+}
+
+/// What the crate's reader of GGA alone answers to a line.
+pub fn crate_gga(line: &[u8]) -> Result<Gga, Refusal> {
+    read_one(line, parse_gga)
+}
+
+/// What the crate's reader of GLL alone answers to a line.
+pub fn crate_gll(line: &[u8]) -> Result<Gll, Refusal> {
+    read_one(line, parse_gll)
+}
+
+/// What the crate's reader of VTG alone answers to a line.
+pub fn crate_vtg(line: &[u8]) -> Result<Vtg, Refusal> {
+    read_one(line, parse_vtg)
 }
 
 fn read_one<'a, Data, Record: From<Data>>(

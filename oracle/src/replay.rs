@@ -42,8 +42,8 @@ impl Replay {
         for line in Generator::new(seed).take(LOOKED_AT) {
             let (ours, theirs) = (expected(&line).answer, crate_answer(&line));
             let most = match ours {
-                Answer::Rmc(_) | Answer::Gsa(_) | Answer::Gsv(_) => 2 * OF_EACH_PAIR,
                 Answer::Other(_) | Answer::Refused(_) => OF_EACH_PAIR,
+                _ => 2 * OF_EACH_PAIR,
             };
             let count = &mut counts[ours.class().index()][theirs.class().index()];
             if *count < most && seen.insert(line.clone()) {

@@ -87,7 +87,7 @@ fn status_letter(status: RmcStatusOfFix) -> char {
     }
 }
 
-fn mode_letter(mode: FaaMode) -> char {
+pub(crate) fn mode_letter(mode: FaaMode) -> char {
     match mode {
         FaaMode::Autonomous => 'A',
         FaaMode::Caution => 'C',

@@ -4,7 +4,8 @@ mod reader;
 mod writer;
 
 use crate::{
-    Answer, Coordinate, Date, Decimal, Entry, Exact, Gsa, Gsv, Refusal, Rmc, Time, WholeEntry,
+    Answer, Coordinate, Date, Decimal, Entry, Exact, Gga, Gll, Gsa, Gsv, Refusal, Rmc, Speed, Time,
+    Vtg, WholeEntry,
 };
 pub(crate) use reader::Reader;
 pub use writer::words_of;
@@ -41,6 +42,9 @@ pub fn answer_of(words: &Words) -> Result<OursAnswer, String> {
             answer: Answer::Refused(refusal),
             exact: Exact::default(),
         }),
+        6 => gga(&mut reader),
+        7 => gll(&mut reader),
+        8 => vtg(&mut reader),
         _ => Err(reader.unfit("no kind of answer")),
     }?;
     reader.end()?;
@@ -65,16 +69,9 @@ fn other(reader: &mut Reader) -> Result<OursAnswer, String> {
 
 fn rmc(reader: &mut Reader) -> Result<OursAnswer, String> {
     let talker = talker(reader)?;
-    let time = reader.optional(4, |reader| {
-        Ok(Time {
-            hour: reader.fits()?,
-            minute: reader.fits()?,
-            second: reader.fits()?,
-            nanosecond: reader.fits()?,
-        })
-    })?;
+    let time = time(reader)?;
     let status = reader.letter()?;
-    let position = reader.optional(8, |reader| Ok([coordinate(reader)?, coordinate(reader)?]))?;
+    let position = position(reader)?;
     let speed = reader.optional(4, decimal)?;
     let course = reader.optional(4, decimal)?;
     let date = reader.optional(3, |reader| {
@@ -175,6 +172,78 @@ fn gsv(reader: &mut Reader) -> Result<OursAnswer, String> {
     })
 }
 
+fn gga(reader: &mut Reader) -> Result<OursAnswer, String> {
+    let talker = talker(reader)?;
+    let time = time(reader)?;
+    let position = position(reader)?;
+    let fix = match reader.letter()? {
+        digit @ '0'..='8' => digit,
+        _ => return Err(reader.unfit("no fix")),
+    };
+    let satellites = reader.optional(1, Reader::fits)?;
+    let hdop = reader.optional(4, decimal)?;
+    let altitude = reader.optional(4, decimal)?;
+    let geoid = reader.optional(4, decimal)?;
+    let record = Gga {
+        time,
+        latitude: position.map(|[latitude, _]| latitude.bits),
+        longitude: position.map(|[_, longitude]| longitude.bits),
+        fix,
+        satellites,
+        hdop: hdop.map(|decimal| decimal.bits),
+        altitude: altitude.map(|decimal| decimal.bits),
+        geoid: geoid.map(|decimal| decimal.bits),
+    };
+    Ok(OursAnswer {
+        answer: Answer::Gga(record),
+        exact: Exact {
+            talker,
+            position,
+            decimals: [hdop, altitude, geoid],
+            ..Exact::default()
+        },
+    })
+}
+
+fn gll(reader: &mut Reader) -> Result<OursAnswer, String> {
+    let talker = talker(reader)?;
+    let position = position(reader)?;
+    let record = Gll {
+        latitude: position.map(|[latitude, _]| latitude.bits),
+        longitude: position.map(|[_, longitude]| longitude.bits),
+        time: time(reader)?,
+        status: reader.letter()?,
+        mode: reader.optional_letter()?,
+    };
+    Ok(OursAnswer {
+        answer: Answer::Gll(record),
+        exact: Exact {
+            talker,
+            position,
+            ..Exact::default()
+        },
+    })
+}
+
+fn vtg(reader: &mut Reader) -> Result<OursAnswer, String> {
+    let talker = talker(reader)?;
+    let course = reader.optional(4, decimal)?;
+    let speed = reader.optional(6, speed)?;
+    let record = Vtg {
+        course: course.map(|decimal| decimal.bits),
+        speed: speed.map(|speed| speed.knots),
+    };
+    Ok(OursAnswer {
+        answer: Answer::Vtg(record),
+        exact: Exact {
+            talker,
+            decimals: [course, None, None],
+            speed,
+            ..Exact::default()
+        },
+    })
+}
+
 fn whole_entry(reader: &mut Reader) -> Result<WholeEntry, String> {
     Ok(WholeEntry {
         satellite: reader.fits()?,
@@ -228,6 +297,30 @@ fn decimal(reader: &mut Reader) -> Result<Decimal, String> {
         decimals: reader.fits()?,
         bits: reader.fits()?,
     })
+}
+
+fn speed(reader: &mut Reader) -> Result<Speed, String> {
+    Ok(Speed {
+        unit: reader.letter()?,
+        written: decimal(reader)?,
+        knots: reader.fits()?,
+    })
+}
+
+fn time(reader: &mut Reader) -> Result<Option<Time>, String> {
+    reader.optional(4, |reader| {
+        Ok(Time {
+            hour: reader.fits()?,
+            minute: reader.fits()?,
+            second: reader.fits()?,
+            nanosecond: reader.fits()?,
+        })
+    })
+}
+
+/// Latitude and longitude.
+fn position(reader: &mut Reader) -> Result<Option<[Coordinate; 2]>, String> {
+    reader.optional(8, |reader| Ok([coordinate(reader)?, coordinate(reader)?]))
 }
 
 fn coordinate(reader: &mut Reader) -> Result<Coordinate, String> {

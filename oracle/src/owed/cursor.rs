@@ -75,7 +75,8 @@ impl<'a> Cursor<'a> {
         self.is_at_comma() && (last.is_empty() || is_number && last.parse::<u8>().is_ok())
     }
 
-    /// Eats a satellite's number or nothing, and its comma, if they are there.
+    /// Eats a number of satellites, or of one, or nothing, and its comma, if they
+    /// are there.
     pub(super) fn eats_item(&mut self) -> bool {
         let behind = self
             .rest

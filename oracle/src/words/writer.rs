@@ -1,5 +1,8 @@
 use super::{OursAnswer, Words, WORDS};
-use crate::{Answer, Coordinate, Decimal, Exact, Gsa, Gsv, Refusal, Rmc, System, WholeEntry};
+use crate::{
+    Answer, Coordinate, Decimal, Exact, F64Bits, Gga, Gll, Gsa, Gsv, Refusal, Rmc, System, Time,
+    Vtg, WholeEntry,
+};
 
 /// The words of an answer, by docs/ABI.md: what `answer_of` reads. Floats are
 /// those of the part that the crate answers too.
@@ -12,6 +15,9 @@ pub fn words_of(ours: &OursAnswer) -> Words {
         Answer::Rmc(record) => writer.rmc(record, &ours.exact),
         Answer::Gsa(record) => writer.gsa(record, &ours.exact),
         Answer::Gsv(record) => writer.gsv(record, &ours.exact),
+        Answer::Gga(record) => writer.gga(record, &ours.exact),
+        Answer::Gll(record) => writer.gll(record, &ours.exact),
+        Answer::Vtg(record) => writer.vtg(record, &ours.exact),
         Answer::Other(name) => {
             writer.head(4, &ours.exact);
             writer.bytes(name);
@@ -58,19 +64,9 @@ impl Writer {
 
     fn rmc(&mut self, record: &Rmc, exact: &Exact) {
         self.head(1, exact);
-        self.optional(record.time, 4, |writer, time| {
-            writer.put(time.hour);
-            writer.put(time.minute);
-            writer.put(time.second);
-            writer.put(time.nanosecond);
-        });
+        self.time(record.time);
         self.put(record.status);
-        let degrees = record.latitude.zip(record.longitude);
-        let position = degrees.zip(exact.position);
-        self.optional(position, 8, |writer, (degrees, [latitude, longitude])| {
-            writer.coordinate(latitude, degrees.0);
-            writer.coordinate(longitude, degrees.1);
-        });
+        self.position(record.latitude.zip(record.longitude), exact);
         let [speed, course, variation] = exact.decimals;
         self.optional(speed.zip(record.speed), 4, Writer::decimal);
         self.optional(course.zip(record.course), 4, Writer::decimal);
@@ -114,6 +110,57 @@ impl Writer {
         for entry in exact.entries {
             self.optional(entry, 7, Writer::entry);
         }
+    }
+
+    fn gga(&mut self, record: &Gga, exact: &Exact) {
+        self.head(6, exact);
+        self.time(record.time);
+        self.position(record.latitude.zip(record.longitude), exact);
+        self.put(record.fix);
+        self.optional(record.satellites, 1, |writer, count| writer.put(count));
+        let [hdop, altitude, geoid] = exact.decimals;
+        self.optional(hdop.zip(record.hdop), 4, Writer::decimal);
+        self.optional(altitude.zip(record.altitude), 4, Writer::decimal);
+        self.optional(geoid.zip(record.geoid), 4, Writer::decimal);
+    }
+
+    fn gll(&mut self, record: &Gll, exact: &Exact) {
+        self.head(7, exact);
+        self.position(record.latitude.zip(record.longitude), exact);
+        self.time(record.time);
+        self.put(record.status);
+        self.put(record.mode.unwrap_or('\0'));
+    }
+
+    fn vtg(&mut self, record: &Vtg, exact: &Exact) {
+        self.head(8, exact);
+        let [course, ..] = exact.decimals;
+        self.optional(course.zip(record.course), 4, Writer::decimal);
+        let speed = exact.speed.zip(record.speed);
+        self.optional(speed, 6, |writer, (speed, knots)| {
+            writer.put(speed.unit);
+            // The crate has no float of a speed in km/h.
+            writer.decimal((speed.written, speed.written.bits));
+            writer.put(knots);
+        });
+    }
+
+    fn time(&mut self, time: Option<Time>) {
+        self.optional(time, 4, |writer, time| {
+            writer.put(time.hour);
+            writer.put(time.minute);
+            writer.put(time.second);
+            writer.put(time.nanosecond);
+        });
+    }
+
+    /// The position of these degrees.
+    fn position(&mut self, degrees: Option<(F64Bits, F64Bits)>, exact: &Exact) {
+        let position = degrees.zip(exact.position);
+        self.optional(position, 8, |writer, (degrees, [latitude, longitude])| {
+            writer.coordinate(latitude, degrees.0);
+            writer.coordinate(longitude, degrees.1);
+        });
     }
 
     fn entry(&mut self, entry: WholeEntry) {

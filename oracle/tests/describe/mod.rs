@@ -1,6 +1,6 @@
 //! Answers in the words of docs/DIFFERENCES.md and docs/ODD-READINGS.md.
 
-use oracle::{Answer, Entry, Gsa, Gsv, Refusal, Rmc};
+use oracle::{Answer, Entry, Gga, Gll, Gsa, Gsv, Refusal, Rmc, Time, Vtg};
 
 /// An answer as the document writes it.
 pub fn describe(answer: &Answer) -> String {
@@ -8,6 +8,9 @@ pub fn describe(answer: &Answer) -> String {
         Answer::Rmc(record) => format!("accepts: {}", describe_rmc(record)),
         Answer::Gsa(record) => format!("accepts: {}", describe_gsa(record)),
         Answer::Gsv(record) => format!("accepts: {}", describe_gsv(record)),
+        Answer::Gga(record) => format!("accepts: {}", describe_gga(record)),
+        Answer::Gll(record) => format!("accepts: {}", describe_gll(record)),
+        Answer::Vtg(record) => format!("accepts: {}", describe_vtg(record)),
         Answer::Other(name) => format!("accepts: Other {}", name.escape_ascii()),
         Answer::Refused(refusal) => format!("refuses: {}", describe_refusal(refusal)),
     }
@@ -23,19 +26,26 @@ fn listed<const N: usize>(fields: [Option<String>; N]) -> String {
     }
 }
 
-fn describe_rmc(record: &Rmc) -> String {
-    let f32_field =
-        |name, bits: Option<u32>| bits.map(|bits| format!("{name} {:?}", f32::from_bits(bits)));
-    let f64_field =
-        |name, bits: Option<u64>| bits.map(|bits| format!("{name} {:?}", f64::from_bits(bits)));
-    let time = record.time.map(|time| {
+fn f32_field(name: &str, bits: Option<u32>) -> Option<String> {
+    bits.map(|bits| format!("{name} {:?}", f32::from_bits(bits)))
+}
+
+fn f64_field(name: &str, bits: Option<u64>) -> Option<String> {
+    bits.map(|bits| format!("{name} {:?}", f64::from_bits(bits)))
+}
+
+fn time_field(time: Option<Time>) -> Option<String> {
+    time.map(|time| {
         format!(
             "time {:02}:{:02}:{:02} and {} ns",
             time.hour, time.minute, time.second, time.nanosecond
         )
-    });
+    })
+}
+
+fn describe_rmc(record: &Rmc) -> String {
     let fields = [
-        time,
+        time_field(record.time),
         f64_field("latitude", record.latitude),
         f64_field("longitude", record.longitude),
         f32_field("speed", record.speed),
@@ -51,18 +61,45 @@ fn describe_rmc(record: &Rmc) -> String {
 }
 
 fn describe_gsa(record: &Gsa) -> String {
-    let field =
-        |name, bits: Option<u32>| bits.map(|bits| format!("{name} {:?}", f32::from_bits(bits)));
     let satellites =
         (!record.satellites.is_empty()).then(|| format!("satellites {:?}", record.satellites));
     let fields = [
         satellites,
-        field("PDOP", record.pdop),
-        field("HDOP", record.hdop),
-        field("VDOP", record.vdop),
+        f32_field("PDOP", record.pdop),
+        f32_field("HDOP", record.hdop),
+        f32_field("VDOP", record.vdop),
         record.system.map(|system| format!("system {system:?}")),
     ];
     listed(fields)
+}
+
+fn describe_gga(record: &Gga) -> String {
+    let satellites = record.satellites.map(|count| format!("satellites {count}"));
+    listed([
+        time_field(record.time),
+        f64_field("latitude", record.latitude),
+        f64_field("longitude", record.longitude),
+        satellites,
+        f32_field("HDOP", record.hdop),
+        f32_field("altitude", record.altitude),
+        f32_field("geoid separation", record.geoid),
+    ])
+}
+
+fn describe_gll(record: &Gll) -> String {
+    listed([
+        f64_field("latitude", record.latitude),
+        f64_field("longitude", record.longitude),
+        time_field(record.time),
+        record.mode.map(|letter| format!("mode {letter}")),
+    ])
+}
+
+fn describe_vtg(record: &Vtg) -> String {
+    listed([
+        f32_field("course", record.course),
+        f32_field("speed", record.speed),
+    ])
 }
 
 fn describe_gsv(record: &Gsv) -> String {

@@ -6,6 +6,8 @@ mod damage;
 mod draft;
 mod exhaustive;
 mod generator;
+mod gga;
+mod gll;
 mod gsa;
 mod gsv;
 mod log;
@@ -15,6 +17,7 @@ mod rmc;
 mod sentence;
 mod table;
 mod texts;
+mod vtg;
 mod worked;
 
 pub use batch::Batch;

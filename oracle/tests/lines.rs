@@ -2,7 +2,7 @@
 
 use std::collections::{BTreeMap, HashSet};
 
-use oracle::{crate_answer, lines::Generator, Answer, Class, Refusal, LONGEST_FRAME};
+use oracle::{crate_answer, expected, lines::Generator, Answer, Class, Refusal, LONGEST_FRAME};
 
 #[test]
 fn a_seed_gives_the_same_lines() {
@@ -41,6 +41,9 @@ fn every_answer_is_reached() {
         "RMC",
         "GSA",
         "GSV",
+        "GGA",
+        "GLL",
+        "VTG",
         "Other",
     ];
     let names = classes.keys().map(|class| class.name());
@@ -51,35 +54,86 @@ fn every_answer_is_reached() {
     }
 }
 
-/// Where the decimals of RMC stand behind the seconds: the field, and how many
-/// bytes of it stand before them.
-const BEHIND_SECONDS: [(usize, usize); 5] = [(3, 2), (5, 3), (7, 0), (8, 0), (10, 0)];
+/// Where the decimals of a type stand: their field behind the type's, and how
+/// many bytes of it stand before them. Those of GSA stand behind its satellites.
+const DECIMALS: [(&str, usize, usize); 17] = [
+    ("RMC", 3, 2),
+    ("RMC", 5, 3),
+    ("RMC", 7, 0),
+    ("RMC", 8, 0),
+    ("RMC", 10, 0),
+    ("GGA", 2, 2),
+    ("GGA", 4, 3),
+    ("GGA", 8, 0),
+    ("GGA", 9, 0),
+    ("GGA", 11, 0),
+    ("GLL", 1, 2),
+    ("GLL", 3, 3),
+    ("VTG", 1, 0),
+    ("VTG", 3, 0),
+    ("VTG", 5, 0),
+    // In place of the N, and behind it.
+    ("VTG", 6, 0),
+    ("VTG", 6, 1),
+];
+
+/// Seconds with a sign are refused.
+const SECONDS: [(&str, usize, usize); 3] = [("RMC", 1, 4), ("GGA", 1, 4), ("GLL", 5, 4)];
 
 #[test]
 fn signs_come_at_every_decimal_place() {
-    // Of what is read, and of seconds, which are refused.
-    let mut signs = [0; 9];
-    for line in Generator::new(1).take(20_000) {
+    let mut signs = [0; DECIMALS.len()];
+    let mut seconds = [0; SECONDS.len()];
+    let mut dops = [0; 3];
+    for line in Generator::new(1).take(40_000) {
         let fields: Vec<&[u8]> = line.split(|&byte| byte == b',').collect();
-        let is_signed = |field: usize, before: usize| fields[field].get(before) == Some(&b'-');
-        let is_float_signed = |bits: Option<u32>| bits.is_some_and(|bits| bits >> 31 == 1);
+        let name = line.get(3..6).unwrap_or_default();
+        let is_signed = |&(of, field, before): &(&str, usize, usize)| {
+            let field = fields.get(field).copied().unwrap_or_default();
+            of.as_bytes() == name && field.get(before) == Some(&b'-')
+        };
         match crate_answer(&line) {
-            Answer::Rmc(_) => {
-                for (count, (field, before)) in signs.iter_mut().zip(BEHIND_SECONDS) {
-                    *count += usize::from(is_signed(field, before));
-                }
-            }
             Answer::Gsa(record) => {
-                let dops = [record.pdop, record.hdop, record.vdop];
-                for (count, dop) in signs[5..].iter_mut().zip(dops) {
-                    *count += usize::from(is_float_signed(dop));
+                let bits = [record.pdop, record.hdop, record.vdop];
+                for (count, bits) in dops.iter_mut().zip(bits) {
+                    *count += usize::from(bits.is_some_and(|bits| bits >> 31 == 1));
                 }
             }
             Answer::Refused(Refusal::Syntax) => {
-                signs[8] += usize::from(fields.len() > 1 && is_signed(1, 4));
+                for (count, place) in seconds.iter_mut().zip(&SECONDS) {
+                    *count += usize::from(is_signed(place));
+                }
             }
-            _ => {}
+            Answer::Refused(_) => {}
+            _ => {
+                for (count, place) in signs.iter_mut().zip(&DECIMALS) {
+                    *count += usize::from(is_signed(place));
+                }
+            }
         }
     }
-    assert!(signs.iter().all(|&count| count > 100), "{signs:?}");
+    for counts in [&signs[..], &seconds, &dops] {
+        assert!(counts.iter().all(|&count| count > 100), "{counts:?}");
+    }
+}
+
+/// What a speed of VTG is read from: knots, km/h behind the N or in its place.
+#[test]
+fn speeds_come_in_each_way() {
+    let mut ways = [0; 4];
+    for line in Generator::new(1).take(20_000) {
+        let ours = expected(&line);
+        let Answer::Vtg(_) = ours.answer else {
+            continue;
+        };
+        let behind_knots = line.split(|&byte| byte == b',').nth(6);
+        let has_letter = behind_knots.is_some_and(|field| field.starts_with(b"N"));
+        ways[match ours.exact.speed {
+            None => 0,
+            Some(speed) if speed.unit == 'N' => 1,
+            Some(_) if has_letter => 2,
+            Some(_) => 3,
+        }] += 1;
+    }
+    assert!(ways.iter().all(|&count| count > 100), "{ways:?}");
 }

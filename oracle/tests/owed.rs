@@ -2,7 +2,7 @@
 //! decided once more and in another way: the crate says how far it can read.
 
 use nmea::{
-    sentences::{parse_gsa, parse_rmc},
+    sentences::{parse_gga, parse_gll, parse_gsa, parse_rmc, parse_vtg},
     NmeaSentence, SentenceType,
 };
 use oracle::{
@@ -14,7 +14,8 @@ use oracle::{
 /// A place of a decimal.
 struct Place {
     field: usize,
-    /// How many bytes of the field stand before the decimal.
+    /// How many bytes of the field stand before the decimal; an N that may stand
+    /// there is not counted.
     behind: usize,
     limits: Limits,
     /// A plain decimal, and a shortest end of the sentence.
@@ -48,13 +49,36 @@ const GSA: [Place; 3] = [
     place(2, 0, Limits::Short, "1"),
 ];
 
+const GGA: [Place; 6] = [
+    place(0, 4, Limits::Long, "0,,,,,1,,,,,,"),
+    place(1, 2, Limits::Long, "0,N,0000,E,1,,,,,,"),
+    place(3, 3, Limits::Long, "0,E,1,,,,,,"),
+    place(7, 0, Limits::Short, ",,,,"),
+    place(8, 0, Limits::Short, ",,,"),
+    place(10, 0, Limits::Short, ","),
+];
+
+const GLL: [Place; 3] = [
+    place(0, 2, Limits::Long, "0,N,0000,E,,A,"),
+    place(2, 3, Limits::Long, "0,E,,A,"),
+    place(4, 4, Limits::Long, "0,A,"),
+];
+
+/// The places of VTG. The last is that of km/h.
+const VTG: [Place; 4] = [
+    place(0, 0, Limits::Short, ",,,,,,"),
+    place(2, 0, Limits::Short, ",,,,"),
+    place(4, 0, Limits::Short, ",,"),
+    place(5, 0, Limits::Short, ","),
+];
+
 /// The text for which Number is owed, by the crate: it reads the sentence up
 /// to the first text that is no plain decimal, with a plain one there and a
 /// shortest end behind it. If it accepts that, nothing before the text is wrong.
 fn wrong_decimal(line: &[u8]) -> Option<&str> {
     // These come from framing; a right frame and no record is Syntax.
     match crate_answer(line) {
-        Answer::Rmc(_) | Answer::Gsa(_) => {}
+        Answer::Rmc(_) | Answer::Gsa(_) | Answer::Gga(_) | Answer::Gll(_) | Answer::Vtg(_) => {}
         Answer::Refused(Refusal::Syntax | Refusal::SystemMismatch { .. }) => {}
         _ => return None,
     }
@@ -70,9 +94,15 @@ fn wrong_decimal(line: &[u8]) -> Option<&str> {
     let (places, first) = match name {
         "RMC" => (&RMC[..], 0),
         "GSA" => (&GSA[..], pdop(&fields)?),
+        "GGA" => (&GGA[..], 0),
+        "GLL" => (&GLL[..], 0),
+        "VTG" => (&VTG[..], 0),
         _ => return None,
     };
-    let field = |index: usize| fields.get(index).copied().unwrap_or_default();
+    let field = |index: usize| match fields.get(index) {
+        Some(text) if name == "VTG" && index == 5 => text.strip_prefix('N').unwrap_or(text),
+        text => text.copied().unwrap_or_default(),
+    };
     let text = |place: &Place| field(first + place.field).get(place.behind..);
     let wrong = places.iter().find(|place| {
         text(place).is_some_and(|text| !text.is_empty() && !is_plain(text, place.limits))
@@ -131,7 +161,7 @@ fn within_ranges(number: &str) -> &str {
     }
 }
 
-/// Whether the crate's reader of RMC or GSA accepts data, of any length.
+/// Whether the crate's reader of one type accepts data, of any length.
 fn reads_data(name: &str, data: &str) -> bool {
     // This talker names no system that could be at odds with the data's.
     let sentence = |message_id| NmeaSentence {
@@ -142,6 +172,9 @@ fn reads_data(name: &str, data: &str) -> bool {
     };
     match name {
         "RMC" => parse_rmc(sentence(SentenceType::RMC)).is_ok(),
+        "GGA" => parse_gga(sentence(SentenceType::GGA)).is_ok(),
+        "GLL" => parse_gll(sentence(SentenceType::GLL)).is_ok(),
+        "VTG" => parse_vtg(sentence(SentenceType::VTG)).is_ok(),
         _ => parse_gsa(sentence(SentenceType::GSA)).is_ok(),
     }
 }

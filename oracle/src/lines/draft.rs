@@ -45,6 +45,12 @@ impl Draft {
         }
     }
 
+    /// What stands behind the last comma goes, with that comma.
+    pub(super) fn drop_last_field(&mut self) {
+        let comma = self.line.iter().rposition(|&byte| byte == b',');
+        self.line.truncate(comma.unwrap_or_default());
+    }
+
     /// A whole number, with leading zeros to its width.
     pub(super) fn whole(&mut self, number: usize, width: usize) {
         put_whole(&mut self.line, number as u64, width);

@@ -4,7 +4,7 @@ mod places;
 
 use super::{draft::put_whole, worked_lines, Part};
 use crate::{checksum, hexadecimal, repair};
-use places::{ANGLES, DECIMALS, THREE_BYTES, TWO_BYTES};
+use places::{ANGLES, DECIMALS, KILOMETRES, MORE_DECIMALS, THREE_BYTES, TWO_BYTES};
 
 /// The values of a byte, and of one below 128.
 const BYTES: u64 = 256;
@@ -29,15 +29,21 @@ pub fn exhaustive_parts() -> Vec<Part> {
         dates(),
         counts(),
         single_bytes(),
-        short_decimals("short decimals", ""),
-        short_decimals("negative short decimals", "-"),
+        short_decimals("short decimals", &DECIMALS, ""),
+        short_decimals("negative short decimals", &DECIMALS, "-"),
         signed_minutes(),
+        satellites(),
+        few_digits(),
+        short_decimals("short decimals of GGA and VTG", &MORE_DECIMALS, ""),
+        short_decimals("negative ones of GGA and VTG", &MORE_DECIMALS, "-"),
+        short_decimals("speeds in km/h", &KILOMETRES, ""),
+        short_decimals("negative speeds in km/h", &KILOMETRES, "-"),
     ]
 }
 
 /// Every two bytes as a talker, before each of these.
 fn talkers() -> Part {
-    const BEHIND: [&str; 14] = [
+    const BEHIND: [&str; 17] = [
         "RMC,,A,,,,,,,,,",
         "GSA,A,1,,,,",
         "GSA,A,1,,,,1",
@@ -50,6 +56,9 @@ fn talkers() -> Part {
         "GSA,A,3,16,3.6,2.1,2.2,4",
         "GSV,1,1,01,01,40,083,46",
         "GSV,",
+        "GGA,,,,,,1,,,,,,",
+        "GLL,,,,,,A,",
+        "VTG,,,,,,,",
         "TXT,",
         "HDG,",
     ];
@@ -161,15 +170,45 @@ fn single_bytes() -> Part {
     })
 }
 
-/// Every short decimal behind the sign, its point anywhere, at one place after
-/// another.
-fn short_decimals(name: &'static str, sign: &'static str) -> Part {
+/// Every number of satellites up to five digits, and as many to both sides of
+/// the end of their range.
+fn satellites() -> Part {
+    const BODY: &str = "GPGGA,,,,,,1,?,,,,,";
+    const BEYOND: u64 = 1 << 32;
+    Part::listed("satellites of GGA", 300_000, |index, line| {
+        let number = match index {
+            0..100_000 => index,
+            _ => BEYOND - 200_000 + index,
+        };
+        at_the_mark(line, BODY, |line| put_whole(line, number, 1));
+    })
+}
+
+/// Every short decimal of a few digits, with either sign, at each place of GGA
+/// and VTG.
+fn few_digits() -> Part {
+    /// Of one to four digits.
+    const TEXTS: u64 = 43_210;
+    let places = [&MORE_DECIMALS[..], &KILOMETRES].concat();
+    let count = 2 * places.len() as u64 * TEXTS;
+    Part::listed("few digits in GGA and VTG", count, move |index, line| {
+        let (kind, text) = (index / TEXTS, index % TEXTS);
+        at_the_mark(line, places[(kind / 2) as usize], |line| {
+            line.extend_from_slice(if kind % 2 == 0 { b"" } else { b"-" });
+            ShortDecimal::of(text).put(line);
+        });
+    })
+}
+
+/// Every short decimal behind the sign, its point anywhere, at one of the
+/// places after another.
+fn short_decimals(name: &'static str, bodies: &'static [&str], sign: &'static str) -> Part {
     Part::listed(name, SHORT_DECIMALS, move |index, line| {
         let decimal = ShortDecimal::of(index);
         // A whole PDOP without a sign would be a satellite.
-        let is_item = sign.is_empty() && decimal.decimals == 0;
-        let places = DECIMALS.len() as u64 - u64::from(is_item);
-        let body = DECIMALS[(decimal.number % places) as usize];
+        let is_item = sign.is_empty() && decimal.decimals == 0 && bodies == DECIMALS;
+        let places = bodies.len() as u64 - u64::from(is_item);
+        let body = bodies[(decimal.number % places) as usize];
         at_the_mark(line, body, |line| {
             line.extend_from_slice(sign.as_bytes());
             decimal.put(line);
@@ -177,20 +216,21 @@ fn short_decimals(name: &'static str, sign: &'static str) -> Part {
     })
 }
 
-/// All degrees, to each side, with each of the minutes below zero.
+/// All degrees, to each side, with each of the minutes below zero, in one type
+/// after another.
 fn signed_minutes() -> Part {
     let minutes = minutes_below_zero();
-    let degrees: Vec<(&str, String)> = ANGLES
+    let degrees: Vec<([&str; 3], String)> = ANGLES
         .iter()
-        .flat_map(|&(body, width, bound)| {
-            (0..bound).map(move |degrees| (body, format!("{degrees:0width$}")))
+        .flat_map(|&(bodies, width, bound)| {
+            (0..bound).map(move |degrees| (bodies, format!("{degrees:0width$}")))
         })
         .collect();
     let count = (degrees.len() * minutes.len()) as u64;
     Part::listed("degrees and signed minutes", count, move |index, line| {
         let index = index as usize;
-        let (body, degrees) = &degrees[index / minutes.len()];
-        at_the_mark(line, body, |line| {
+        let (bodies, degrees) = &degrees[index / minutes.len()];
+        at_the_mark(line, bodies[index % bodies.len()], |line| {
             line.extend_from_slice(degrees.as_bytes());
             line.extend_from_slice(minutes[index % minutes.len()].as_bytes());
         });
@@ -310,19 +350,22 @@ mod tests {
     #[test]
     fn every_short_decimal_is_read_as_one() {
         // Each count of decimals comes to each place; a whole PDOP has its sign.
-        let all = 7 * DECIMALS.len();
-        for (sign, count) in [("", all - 1), ("-", all)] {
-            let mut batch = Batch::default();
-            short_decimals("", sign).fill(0..50_000, &mut batch);
-            let mut kinds = HashSet::new();
-            for line in batch.lines() {
-                assert_eq!(crate_answer(line).number(), 0, "{}", line.escape_ascii());
-                let (place, text) = marked(line, &DECIMALS);
-                assert_eq!(text.starts_with('-'), sign == "-", "{text}");
-                let decimals = text.split_once('.');
-                kinds.insert((place, decimals.map(|(_, decimals)| decimals.len())));
+        let all: [(&[&str], usize); 3] = [(&DECIMALS, 1), (&MORE_DECIMALS, 0), (&KILOMETRES, 0)];
+        for (bodies, whole) in all {
+            let all = 7 * bodies.len();
+            for (sign, count) in [("", all - whole), ("-", all)] {
+                let mut batch = Batch::default();
+                short_decimals("", bodies, sign).fill(0..50_000, &mut batch);
+                let mut kinds = HashSet::new();
+                for line in batch.lines() {
+                    assert_eq!(crate_answer(line).number(), 0, "{}", line.escape_ascii());
+                    let (place, text) = marked(line, bodies);
+                    assert_eq!(text.starts_with('-'), sign == "-", "{text}");
+                    let decimals = text.split_once('.');
+                    kinds.insert((place, decimals.map(|(_, decimals)| decimals.len())));
+                }
+                assert_eq!(kinds.len(), count);
             }
-            assert_eq!(kinds.len(), count);
         }
     }
 
@@ -356,16 +399,16 @@ mod tests {
     fn all_degrees_come_with_minutes_below_zero() {
         let mut batch = Batch::default();
         signed_minutes().fill(0..50_000, &mut batch);
-        let marks = ANGLES.map(|(body, _, _)| body);
+        let marks: Vec<&str> = ANGLES.iter().flat_map(|(bodies, ..)| *bodies).collect();
         let mut met = HashSet::new();
         for line in batch.lines() {
             assert_eq!(crate_answer(line).number(), 0, "{}", line.escape_ascii());
             let (angle, field) = marked(line, &marks);
-            let (degrees, minutes) = field.split_at(ANGLES[angle].1);
+            let (degrees, minutes) = field.split_at(ANGLES[angle / 3].1);
             assert!(minutes.starts_with('-'), "{field}");
             met.insert((angle, degrees));
         }
-        assert_eq!(met.len(), 2 * (100 + 256));
+        assert_eq!(met.len(), 3 * 2 * (100 + 256));
     }
 
     #[test]
@@ -394,5 +437,7 @@ mod tests {
         assert_eq!(widths(&TWO_BYTES), HashSet::from([2]));
         assert_eq!(widths(&THREE_BYTES), HashSet::from([3]));
         assert_eq!(widths(&DECIMALS), HashSet::from([1]));
+        assert_eq!(widths(&MORE_DECIMALS), HashSet::from([1]));
+        assert_eq!(widths(&KILOMETRES), HashSet::from([1]));
     }
 }

@@ -26,11 +26,7 @@ impl Draft {
             1 => self.put(","),
             2 => self.put(",,,,"),
             3 if self.random.odd() => self.put("x"),
-            4 if self.random.odd() => {
-                // The last field goes with its comma.
-                let comma = self.line.iter().rposition(|&byte| byte == b',');
-                self.line.truncate(comma.unwrap_or_default());
-            }
+            4 if self.random.odd() => self.drop_last_field(),
             _ => {}
         }
     }

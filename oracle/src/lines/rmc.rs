@@ -1,6 +1,6 @@
 use super::draft::Draft;
 
-const MODES: &[u8] = b"ACDEFMNPRSU";
+pub(super) const MODES: &[u8] = b"ACDEFMNPRSU";
 const STATUSES: &[u8] = b"ADEMNSV";
 
 /// Times at their limits, and no times.
@@ -77,7 +77,7 @@ impl Draft {
         self.ending();
     }
 
-    fn time(&mut self) {
+    pub(super) fn time(&mut self) {
         if self.random.odd() {
             return self.one_of(&ODD_TIMES);
         }
@@ -93,7 +93,7 @@ impl Draft {
         self.long();
     }
 
-    fn position(&mut self) {
+    pub(super) fn position(&mut self) {
         if self.random.odd() {
             return self.one_of(&ODD_POSITIONS);
         }

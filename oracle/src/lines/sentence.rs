@@ -11,7 +11,9 @@ const TALKERS: [&str; 16] = [
 ];
 
 /// Types that are nearly known.
-const ODD_TYPES: [&str; 7] = ["rmc", "gsv", "GSa", "RM", "GS", "RMCA", ""];
+const ODD_TYPES: [&str; 10] = [
+    "rmc", "gsv", "GSa", "RM", "GS", "RMCA", "", "gga", "GG", "VTGA",
+];
 
 /// What may stand behind a checksum.
 const REST: [&str; 8] = ["\r", "\r\n", " ", "x", ",", "*00", "$GPGSA,A,1,,,,*32", "0"];
@@ -53,18 +55,30 @@ impl Draft {
     /// Talker, type, comma and data.
     fn body(&mut self) {
         self.talker();
-        match self.random.below(20) {
-            0..=7 => {
+        match self.random.below(32) {
+            0..=6 => {
                 self.put("RMC,");
                 self.rmc();
             }
-            8..=12 => {
+            7..=11 => {
                 self.put("GSA,");
                 self.gsa();
             }
-            13..=16 => {
+            12..=15 => {
                 self.put("GSV,");
                 self.gsv();
+            }
+            16..=20 => {
+                self.put("GGA,");
+                self.gga();
+            }
+            21..=23 => {
+                self.put("GLL,");
+                self.gll();
+            }
+            24..=28 => {
+                self.put("VTG,");
+                self.vtg();
             }
             _ => {
                 self.other_type();

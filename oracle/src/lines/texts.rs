@@ -145,7 +145,7 @@ impl Draft {
     }
 
     /// Digits, and decimals behind a point if there are any.
-    fn decimal(&mut self, whole: usize, decimals: usize) {
+    pub(super) fn decimal(&mut self, whole: usize, decimals: usize) {
         self.digits(whole);
         if decimals > 0 {
             self.byte(b'.');
@@ -205,6 +205,13 @@ impl Draft {
         if decimals > 0 {
             self.byte(b'.');
             self.digits(decimals);
+        }
+    }
+
+    /// The letter of a unit, or nothing; both are right.
+    pub(super) fn unit(&mut self, letter: u8) {
+        if !self.random.one_in(4) {
+            self.letter(&[letter]);
         }
     }
 

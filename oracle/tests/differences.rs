@@ -8,11 +8,12 @@ use describe::{describe, describe_refusal};
 use document::{all_rows, listed_types, section, Row, TYPES};
 use nmea::SentenceType;
 use oracle::{
-    answer_of, crate_answer, crate_gsa, crate_gsv, crate_rmc, is_plain, lines::Batch, owed,
-    with_checksum, Answer, Limits, Ours, Refusal, KNOWN_TYPES,
+    answer_of, crate_answer, crate_gga, crate_gll, crate_gsa, crate_gsv, crate_rmc, crate_vtg,
+    is_plain, lines::Batch, owed, with_checksum, Answer, Limits, Ours, Refusal, KNOWN_TYPES,
 };
 
 const MORE_DECIMALS: &str = "Beside the decimal";
+const ALIKE: &str = "Seconds and minutes of GGA and GLL";
 
 /// The rows of the table under a heading.
 fn rows(heading: &str) -> Vec<Row> {
@@ -38,7 +39,7 @@ struct Place {
 type Probe = (&'static str, &'static str);
 
 /// Tried at every place, before those beyond its limits.
-const ANYWHERE: [Probe; 8] = [
+const ANYWHERE: [Probe; 10] = [
     ("plus sign", "+1"),
     ("exponent", "1e1"),
     ("exponent", "1E+1"),
@@ -47,6 +48,8 @@ const ANYWHERE: [Probe; 8] = [
     ("infinity", "inf"),
     ("infinity", "infinity"),
     ("not a number", "nan"),
+    ("a sign before these words", "-inf"),
+    ("a sign before these words", "+nan"),
 ];
 
 /// Tried at every place, last.
@@ -78,7 +81,7 @@ const BEYOND_PDOP: [Probe; 3] = [
     ("more than 7 digits", "1.2345678"),
 ];
 
-const PLACES: [Place; 9] = [
+const PLACES: [Place; 17] = [
     Place {
         heading: "Seconds",
         before: "GNRMC,0000",
@@ -151,6 +154,123 @@ const PLACES: [Place; 9] = [
         beyond: &BEYOND_SHORT,
         drops_the_rest: true,
     },
+    Place {
+        heading: "HDOP of GGA",
+        before: "GNGGA,,,,,,0,,",
+        after: ",,,,",
+        limits: Limits::Short,
+        beyond: &BEYOND_SHORT,
+        drops_the_rest: false,
+    },
+    Place {
+        heading: "Altitude",
+        before: "GNGGA,,,,,,0,,,",
+        after: ",,,",
+        limits: Limits::Short,
+        beyond: &BEYOND_SHORT,
+        drops_the_rest: false,
+    },
+    Place {
+        heading: "Geoid separation",
+        before: "GNGGA,,,,,,0,,,,,",
+        after: ",",
+        limits: Limits::Short,
+        beyond: &BEYOND_SHORT,
+        drops_the_rest: false,
+    },
+    Place {
+        heading: "True course of VTG",
+        before: "GNVTG,",
+        after: ",,,,,,",
+        limits: Limits::Short,
+        beyond: &BEYOND_SHORT,
+        drops_the_rest: false,
+    },
+    Place {
+        heading: "Magnetic course of VTG",
+        before: "GNVTG,,,",
+        after: ",,,,",
+        limits: Limits::Short,
+        beyond: &BEYOND_SHORT,
+        drops_the_rest: false,
+    },
+    Place {
+        heading: "Speed in knots",
+        before: "GNVTG,,,,,",
+        after: ",,",
+        limits: Limits::Short,
+        beyond: &BEYOND_SHORT,
+        drops_the_rest: false,
+    },
+    Place {
+        heading: "Speed in km/h behind the N",
+        before: "GNVTG,,,,,,N",
+        after: ",",
+        limits: Limits::Short,
+        beyond: &BEYOND_SHORT,
+        drops_the_rest: false,
+    },
+    Place {
+        heading: "Speed in km/h in place of the N",
+        before: "GNVTG,,,,,,",
+        after: ",",
+        limits: Limits::Short,
+        beyond: &BEYOND_SHORT,
+        drops_the_rest: false,
+    },
+];
+
+/// Seconds and minutes of other types than RMC, whose are the first of all
+/// places, in the same order. The heading is the class of their row.
+const LIKE_RMC: [Place; 6] = [
+    Place {
+        heading: "seconds of GGA",
+        before: "GNGGA,0000",
+        after: ",,,,,0,,,,,,",
+        limits: Limits::Long,
+        beyond: &BEYOND_SECONDS,
+        drops_the_rest: true,
+    },
+    Place {
+        heading: "minutes of latitude of GGA",
+        before: "GNGGA,,00",
+        after: ",N,0000,E,0,,,,,,",
+        limits: Limits::Long,
+        beyond: &BEYOND_MINUTES,
+        drops_the_rest: false,
+    },
+    Place {
+        heading: "minutes of longitude of GGA",
+        before: "GNGGA,,000,N,000",
+        after: ",E,0,,,,,,",
+        limits: Limits::Long,
+        beyond: &BEYOND_MINUTES,
+        drops_the_rest: false,
+    },
+    Place {
+        heading: "seconds of GLL",
+        before: "GNGLL,,,,,0000",
+        after: ",A,",
+        limits: Limits::Long,
+        beyond: &BEYOND_SECONDS,
+        drops_the_rest: true,
+    },
+    Place {
+        heading: "minutes of latitude of GLL",
+        before: "GNGLL,00",
+        after: ",N,0000,E,,A,",
+        limits: Limits::Long,
+        beyond: &BEYOND_MINUTES,
+        drops_the_rest: false,
+    },
+    Place {
+        heading: "minutes of longitude of GLL",
+        before: "GNGLL,000,N,000",
+        after: ",E,,A,",
+        limits: Limits::Long,
+        beyond: &BEYOND_MINUTES,
+        drops_the_rest: false,
+    },
 ];
 
 impl Place {
@@ -165,6 +285,10 @@ impl Place {
     fn probes(&self) -> impl Iterator<Item = Probe> + '_ {
         let beyond = self.beyond.iter().copied();
         ANYWHERE.into_iter().chain(beyond).chain([WITH_TEXT_AFTER])
+    }
+
+    fn is_seconds(&self) -> bool {
+        self.heading.to_lowercase().starts_with("seconds")
     }
 
     /// Whether document 01 answers Number to this text here.
@@ -217,10 +341,39 @@ fn a_place_lists_the_probes_that_the_crate_accepts_there() {
 }
 
 #[test]
+fn seconds_and_minutes_are_read_alike_in_every_type() {
+    let rows = rows(ALIKE);
+    assert_eq!(rows.len(), LIKE_RMC.len());
+    for (index, (row, place)) in rows.iter().zip(&LIKE_RMC).enumerate() {
+        assert_eq!(row.class, place.heading);
+        assert_eq!(row.sentence, place.sentence(row.text), "{}", place.heading);
+        assert!(place.is_number_refusal(row.text), "{}", row.sentence);
+        assert_eq!(row.ours, number(), "{}", row.sentence);
+        let theirs = describe(&place.answer(row.text));
+        assert_eq!(row.theirs, theirs, "{}", row.sentence);
+        assert!(theirs.starts_with("accepts"), "{}", row.sentence);
+
+        // What is listed of RMC, and what is not.
+        let of_rmc = &PLACES[index % 3];
+        let probes = place.probes().map(|(_, text)| text.to_string());
+        for text in probes.chain(texts("1.+-eEx", 4)) {
+            let line = place.sentence(&text);
+            assert_eq!(
+                describe(&place.answer(&text)),
+                describe(&of_rmc.answer(&text)),
+                "{line}"
+            );
+            let is_owed = owed(line.as_bytes()) == Some(Refusal::Number);
+            assert_eq!(is_owed, place.is_number_refusal(&text), "{line}");
+        }
+    }
+}
+
+#[test]
 fn a_minus_sign_alone_is_no_difference() {
     let mut tried = 0;
-    for place in &PLACES {
-        let number = if place.heading == "Seconds" { 4 } else { 0 };
+    for place in PLACES.iter().chain(&LIKE_RMC) {
+        let number = if place.is_seconds() { 4 } else { 0 };
         for text in texts("-10.", 6) {
             if !text.starts_with('-') || !is_plain(&text, place.limits) {
                 continue;
@@ -256,7 +409,8 @@ fn rows_beside_the_decimal() {
             .unwrap();
         assert_eq!(row.sentence, with_checksum(body));
         assert!(
-            body.split(',').any(|field| field == row.text),
+            body.split(',')
+                .any(|field| field.trim_start_matches('N') == row.text),
             "{}",
             row.sentence
         );
@@ -277,6 +431,9 @@ fn every_type_row() {
             "parse_rmc" => crate_rmc(line).map_or_else(Answer::Refused, Answer::Rmc),
             "parse_gsa" => crate_gsa(line).map_or_else(Answer::Refused, Answer::Gsa),
             "parse_gsv" => crate_gsv(line).map_or_else(Answer::Refused, Answer::Gsv),
+            "parse_gga" => crate_gga(line).map_or_else(Answer::Refused, Answer::Gga),
+            "parse_gll" => crate_gll(line).map_or_else(Answer::Refused, Answer::Gll),
+            "parse_vtg" => crate_vtg(line).map_or_else(Answer::Refused, Answer::Vtg),
             function => panic!("no function {function}"),
         };
         let name = &row.sentence[3..6];
@@ -296,7 +453,7 @@ fn no_row_is_left_out() {
     let run: usize = PLACES
         .iter()
         .map(|place| place.heading)
-        .chain([MORE_DECIMALS, TYPES])
+        .chain([ALIKE, MORE_DECIMALS, TYPES])
         .map(|heading| rows(heading).len())
         .sum();
     assert_eq!(all_rows().len(), run);
@@ -363,6 +520,12 @@ fn letters_in_any_case() {
                         _ => letter.to_ascii_uppercase(),
                     })
                     .collect();
+                // A capital N would be the letter of the knots.
+                if place.heading.ends_with("in place of the N") && mixed.starts_with('N') {
+                    let expected = Answer::Refused(Refusal::Syntax);
+                    assert_eq!(place.answer(&mixed), expected, "{mixed}");
+                    continue;
+                }
                 assert_eq!(describe(&place.answer(&mixed)), expected, "{mixed}");
             }
         }
@@ -430,7 +593,7 @@ fn short_texts_are_accepted_exactly_by_the_words() {
                     value.is_sign_positive() && value < 60.
                 };
                 (end == text.len() || place.drops_the_rest)
-                    && (place.heading != "Seconds" || seconds_fit())
+                    && (!place.is_seconds() || seconds_fit())
             });
             let number = place.answer(&text).number();
             assert_eq!(

@@ -7,19 +7,26 @@ use std::{collections::BTreeMap, error::Error};
 use document::section;
 use oracle::{
     answer_of, crate_answer,
-    lines::{corpus, Batch},
-    Answer, Log, Ours, Refusal,
+    lines::{corpus, corpus_lines, Batch},
+    Answer, Class, Log, Ours, Refusal,
 };
 
 const HEADING: &str = "How often real receivers meet them";
 
-/// The lines of the block under the heading.
-fn stated() -> Vec<&'static str> {
-    section(HEADING)
-        .skip_while(|line| !line.starts_with("```"))
+/// The types that are read, in the document's order.
+const TYPES: [&str; 6] = ["RMC", "GSA", "GSV", "GGA", "GLL", "VTG"];
+
+/// The lines of a block under the heading.
+fn stated(block: usize) -> Vec<&'static str> {
+    let lines: Vec<&str> = section(HEADING).collect();
+    let blocks = lines.split(|line| line.starts_with("```"));
+    // Behind each fence that opens a block comes the block.
+    blocks
         .skip(1)
-        .take_while(|line| !line.starts_with("```"))
-        .collect()
+        .step_by(2)
+        .nth(block)
+        .unwrap_or_default()
+        .to_vec()
 }
 
 /// Lines, and logs that have such a line.
@@ -69,6 +76,36 @@ fn the_counts_are_those_of_the_logs() -> Result<(), Box<dyn Error>> {
         .filter(|(what, _)| what.contains(';') || of_a_difference(what))
         .map(|(what, met)| format!("{what}: {} lines of {} logs", met.lines, met.logs))
         .collect();
-    assert_eq!(stated(), counts, "docs/DIFFERENCES.md, \"{HEADING}\"");
+    assert_eq!(stated(0), counts, "docs/DIFFERENCES.md, \"{HEADING}\"");
+    Ok(())
+}
+
+#[test]
+fn the_lines_of_each_type_that_is_read() -> Result<(), Box<dyn Error>> {
+    let ours = Ours::find()?;
+    let lines: Batch = corpus_lines()?.into_iter().collect();
+    let mut met = [const { BTreeMap::<Class, usize>::new() }; TYPES.len()];
+    for (line, words) in lines.lines().zip(ours.answers(&lines)?) {
+        let is_of = |name: &&str| line.starts_with(b"$") && line.get(3..6) == Some(name.as_bytes());
+        if let Some(index) = TYPES.iter().position(is_of) {
+            let class = answer_of(&words)?.answer.class();
+            *met[index].entry(class).or_default() += 1;
+        }
+    }
+    let counts: Vec<String> = TYPES
+        .iter()
+        .zip(met)
+        .map(|(name, met)| {
+            let (accepted, refused): (Vec<_>, Vec<_>) =
+                met.iter().partition(|(class, _)| class.name() == *name);
+            let accepted: usize = accepted.iter().map(|(_, count)| *count).sum();
+            let refused: String = refused
+                .iter()
+                .map(|(class, count)| format!(", {count} refused with {}", class.name()))
+                .collect();
+            format!("{name}: {accepted} accepted{refused}")
+        })
+        .collect();
+    assert_eq!(stated(1), counts, "docs/DIFFERENCES.md, \"{HEADING}\"");
     Ok(())
 }

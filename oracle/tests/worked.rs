@@ -1,10 +1,12 @@
 //! The worked sentences and the easy errors of document 01, and the sentences
-//! in the comments of the crate's gsv.rs, gsa.rs and rmc.rs. Each expectation
-//! is written from the document's words; the crate must answer the same.
+//! in the comments of the crate's gsv.rs, gsa.rs, rmc.rs, gga.rs and vtg.rs. Each
+//! expectation is written from the document's words; the crate must answer the
+//! same.
 
 use oracle::{
-    crate_answer, crate_gsa, crate_gsv, crate_rmc, expected, with_checksum, Answer, Coordinate,
-    Date, Decimal, Entry, Exact, Gsa, Gsv, Refusal, Rmc, System, Time,
+    crate_answer, crate_gga, crate_gll, crate_gsa, crate_gsv, crate_rmc, crate_vtg, expected,
+    with_checksum, Answer, Coordinate, Date, Decimal, Entry, Exact, Gga, Gll, Gsa, Gsv, Refusal,
+    Rmc, Speed, System, Time, Vtg,
 };
 
 /// The three GSV lines of one group, from the comment in gsv.rs.
@@ -69,6 +71,27 @@ fn entry(satellite: u32, elevation: u16, azimuth: u16, signal: u16) -> Option<En
         azimuth: bits(azimuth),
         signal: bits(signal),
     })
+}
+
+fn gga(line: &str) -> Gga {
+    match answer(line) {
+        Answer::Gga(record) => record,
+        other => panic!("{line} is {other:?}"),
+    }
+}
+
+fn gll(line: &str) -> Gll {
+    match answer(line) {
+        Answer::Gll(record) => record,
+        other => panic!("{line} is {other:?}"),
+    }
+}
+
+fn vtg(line: &str) -> Vtg {
+    match answer(line) {
+        Answer::Vtg(record) => record,
+        other => panic!("{line} is {other:?}"),
+    }
 }
 
 /// An RMC record with a status and nothing else.
@@ -545,8 +568,8 @@ fn unknown_mode_letter_is_not_eaten() {
 
 #[test]
 fn types_that_are_not_read_are_other() {
-    let others = "AAM ALM APA BOD BWC BWW DBK DBS DPT GBS GGA GLL GNS GST HDT MDA MTW MWV RMZ \
-                  TTM TXT VHW VTG WNC ZDA ZFO ZTG";
+    let others = "AAM ALM APA BOD BWC BWW DBK DBS DPT GBS GNS GST HDT MDA MTW MWV RMZ TTM TXT \
+                  VHW WNC ZDA ZFO ZTG";
     let mut count = 0;
     for name in others.split_whitespace() {
         let line = with_checksum(&format!("GP{name},"));
@@ -554,7 +577,7 @@ fn types_that_are_not_read_are_other() {
         assert_eq!(answer(&line), expected);
         count += 1;
     }
-    assert_eq!(count, 27);
+    assert_eq!(count, 24);
 }
 
 #[test]
@@ -723,16 +746,30 @@ fn pdop_with_a_sign_is_no_item() {
 }
 
 /// The places of decimals, short ones first.
-const PLACES: [&str; 9] = [
+const PLACES: [&str; 23] = [
     "GPRMC,,A,,,,,?,,,,",
     "GPRMC,,A,,,,,,?,,,",
     "GPRMC,,A,,,,,,,,?,W",
     "GPGSA,A,3,16,?,2.1,2.2",
     "GPGSA,A,3,16,3.6,?,2.2",
     "GPGSA,A,3,16,3.6,2.1,?",
+    "GPGGA,,,,,,1,,?,,,,",
+    "GPGGA,,,,,,1,,,?,,,",
+    "GPGGA,,,,,,1,,,,,?,",
+    "GPVTG,?,,,,,,",
+    "GPVTG,,,?,,,,",
+    "GPVTG,,,,,?,,",
+    "GPVTG,,,,,,N?,",
+    "GPVTG,,,,,,?,",
     "GPRMC,0000?,A,,,,,,,,,",
+    "GPGGA,0000?,,,,,1,,,,,,",
+    "GPGLL,,,,,0000?,A,",
     "GPRMC,,A,00?,N,0000,E,,,,,",
+    "GPGGA,,00?,N,0000,E,1,,,,,,",
+    "GPGLL,00?,N,0000,E,,A,",
     "GPRMC,,A,000,N,000?,E,,,,,",
+    "GPGGA,,000,N,000?,E,1,,,,,,",
+    "GPGLL,000,N,000?,E,,A,",
 ];
 
 #[test]
@@ -749,7 +786,7 @@ fn what_is_no_sign_of_a_decimal() {
         }
     }
     // The sign is no digit.
-    let (short, long) = PLACES.split_at(6);
+    let (short, long) = PLACES.split_at(14);
     for place in short {
         assert!(!is_number(place, "-1234567") && !is_number(place, "-1.234567"));
         assert!(is_number(place, "-12345678") && is_number(place, "-1.2345678"));
@@ -760,10 +797,346 @@ fn what_is_no_sign_of_a_decimal() {
     }
 }
 
+// GGA, GLL and VTG
+
+/// The example of gga.rs, which leaves out `$` and the talker.
+const GGA: &str = "$GPGGA,123519,4807.038,N,01131.324,E,1,08,0.9,545.4,M,46.9,M, , *42";
+/// Those of vtg.rs, of which the second has no checksum there.
+const VTG: &str = "$GPVTG,360.0,T,348.7,M,000.0,N,000.0,K*43";
+const VTG_2: &str = "$GPVTG,054.7,T,034.4,M,005.5,N,010.2,K*48";
+/// The place and the time of the worked RMC.
+const GLL: &str = "$GNGLL,5130.5,N,00006.0,W,101500.25,A,D*66";
+
+/// A GGA record with a fix and nothing else.
+fn bare_gga(fix: char) -> Gga {
+    Gga {
+        time: None,
+        latitude: None,
+        longitude: None,
+        fix,
+        satellites: None,
+        hdop: None,
+        altitude: None,
+        geoid: None,
+    }
+}
+
+/// A GLL record with a status and nothing else.
+fn bare_gll(status: char) -> Gll {
+    Gll {
+        latitude: None,
+        longitude: None,
+        time: None,
+        status,
+        mode: None,
+    }
+}
+
+/// A GGA sentence with a fix and these fields behind it.
+fn gga_line(behind_fix: &str) -> String {
+    with_checksum(&format!("GPGGA,,,,,,1,{behind_fix}"))
+}
+
+#[test]
+fn comment_gga() {
+    assert_eq!(refused(&GGA.as_bytes()[3..]), Refusal::Syntax);
+    let expected = Gga {
+        time: Some(Time {
+            hour: 12,
+            minute: 35,
+            second: 19,
+            nanosecond: 0,
+        }),
+        latitude: position((48 * 60_000 + 7_038) * 1_000_000, 48),
+        longitude: position((11 * 60_000 + 31_324) * 1_000_000, 11),
+        satellites: Some(8),
+        hdop: short(9, 10),
+        altitude: short(5454, 10),
+        geoid: short(469, 10),
+        ..bare_gga('1')
+    };
+    assert_eq!(answer(GGA), Answer::Gga(expected));
+    let decimals = [
+        decimal(9, 1, 0.9),
+        decimal(5454, 1, 545.4),
+        decimal(469, 1, 46.9),
+    ];
+    assert_eq!(exact(GGA).decimals, decimals);
+}
+
+#[test]
+fn comment_vtg() {
+    let expected = Vtg {
+        course: short(3600, 10),
+        speed: short(0, 10),
+    };
+    assert_eq!(answer(VTG), Answer::Vtg(expected));
+
+    let without = VTG_2.trim_end_matches("*48");
+    assert_eq!(refused(without.as_bytes()), Refusal::Syntax);
+    let expected = Vtg {
+        course: short(547, 10),
+        speed: short(55, 10),
+    };
+    assert_eq!(answer(VTG_2), Answer::Vtg(expected));
+    let exact = exact(VTG_2);
+    assert_eq!(exact.decimals, [decimal(547, 1, 54.7), None, None]);
+    let knots = decimal(55, 1, 5.5).unwrap();
+    assert_eq!(exact.speed, speed('N', knots, 5.5));
+}
+
+#[test]
+fn every_fix() {
+    for fix in 0..128u8 {
+        let line = format!("GPGGA,,,,,,{},,,,,,", char::from(fix));
+        let line = with_checksum(&line);
+        match fix {
+            b'0'..=b'8' => assert_eq!(gga(&line), bare_gga(fix.into()), "{line}"),
+            _ => assert_eq!(refused(line.as_bytes()), Refusal::Syntax, "{line}"),
+        }
+    }
+}
+
+#[test]
+fn gga_satellites() {
+    for (text, count) in [("", None), ("0", Some(0)), ("4294967295", Some(u32::MAX))] {
+        let line = gga_line(&format!("{text},,,,,"));
+        assert_eq!(gga(&line).satellites, count, "{line}");
+    }
+    for text in ["4294967296", "18446744073709551617", "+1", "-1", "1.0", "x"] {
+        let line = gga_line(&format!("{text},,,,,"));
+        assert_eq!(refused(line.as_bytes()), Refusal::Syntax, "{line}");
+        assert_eq!(owed_number(&line), 4, "{line}");
+    }
+}
+
+/// The number that document 01 answers to a line.
+fn owed_number(line: &str) -> u8 {
+    expected(line.as_bytes()).answer.number()
+}
+
+#[test]
+fn gga_units_and_commas() {
+    let heights = Gga {
+        altitude: short(5454, 10),
+        geoid: Some((-46.9f32).to_bits()),
+        ..bare_gga('1')
+    };
+    for behind in [
+        ",,545.4,M,-46.9,M",
+        ",,545.4,,-46.9,M",
+        ",,545.4,M,-46.9,",
+        ",,545.4,,-46.9,,,",
+        ",,545.4,M,-46.9,F,x",
+    ] {
+        assert_eq!(gga(&gga_line(behind)), heights, "{behind}");
+    }
+    for behind in [
+        ",,545.4,F,46.9,M",
+        ",,545.4,MM,46.9,M",
+        ",,545.4,m,46.9,M",
+        ",,545.4,M46.9,M",
+        // Each comma in its turn is missing.
+        "",
+        ",",
+        ",,",
+        ",,545.4",
+        ",,545.4,",
+        ",,545.4,M",
+        ",,545.4,M,",
+        ",,545.4,M,46.9",
+    ] {
+        let line = gga_line(behind);
+        assert_eq!(refused(line.as_bytes()), Refusal::Syntax, "{behind}");
+        assert_eq!(owed_number(&line), 4, "{behind}");
+    }
+}
+
+#[test]
+fn gga_checks_run_from_the_left() {
+    for (behind, number) in [
+        // A wrong decimal, and then something that is Syntax.
+        (",1x", 9),
+        (",1x,545.4,F", 9),
+        (",,1x,F,46.9,", 9),
+        (",,,M,1x", 9),
+        // Something that is Syntax, and then a wrong decimal.
+        ("x,1x,,,,", 4),
+        (",,,F,1x,", 4),
+        (",0.9", 4),
+        (",0.9,545.4,M,46.9", 4),
+    ] {
+        assert_eq!(owed_number(&gga_line(behind)), number, "{behind}");
+    }
+    let line = with_checksum("GPGGA,0000-0,,,,,1,,1x,,,,");
+    assert_eq!(owed_number(&line), 4);
+    let line = with_checksum("GPGGA,,,,,,9,,1x,,,,");
+    assert_eq!(owed_number(&line), 4);
+}
+
+#[test]
+fn gll_worked() {
+    let expected = Gll {
+        latitude: position(3_090_500_000_000, 51),
+        longitude: position(-6_000_000_000, 0),
+        time: rmc(RMC).time,
+        mode: Some('D'),
+        ..bare_gll('A')
+    };
+    assert_eq!(answer(GLL), Answer::Gll(expected));
+    assert_eq!(exact(GLL).position, exact(RMC).position);
+}
+
+#[test]
+fn every_status_and_mode_of_gll() {
+    for byte in 0..128u8 {
+        let letter = char::from(byte);
+        let status = with_checksum(&format!("GPGLL,,,,,,{letter},"));
+        match letter {
+            'A' | 'V' => assert_eq!(gll(&status), bare_gll(letter), "{status}"),
+            _ => assert_eq!(refused(status.as_bytes()), Refusal::Syntax, "{status}"),
+        }
+        let mode = with_checksum(&format!("GPGLL,,,,,,V,{letter}"));
+        let read = Gll {
+            mode: Some(letter),
+            ..bare_gll('V')
+        };
+        match letter {
+            _ if "ACDEFMNPRSU".contains(letter) => assert_eq!(gll(&mode), read, "{mode}"),
+            _ => assert_eq!(refused(mode.as_bytes()), Refusal::Syntax, "{mode}"),
+        }
+    }
+}
+
+#[test]
+fn gll_behind_its_status() {
+    let behind = |text: &str| with_checksum(&format!("GPGLL,,,,,,A{text}"));
+    assert_eq!(gll(&behind(",")), bare_gll('A'));
+    for text in [",A", ",AB", ",A,", ",A,x"] {
+        assert_eq!(gll(&behind(text)).mode, Some('A'), "{text}");
+    }
+    for text in ["", "A", ",,", ",,A", ",B", ", A", ",a"] {
+        let line = behind(text);
+        assert_eq!(refused(line.as_bytes()), Refusal::Syntax, "{text}");
+        assert_eq!(owed_number(&line), 4, "{text}");
+    }
+}
+
+/// A speed as it was written, and its float in knots.
+fn speed(unit: char, written: Decimal, knots: f32) -> Option<Speed> {
+    Some(Speed {
+        unit,
+        written,
+        knots: knots.to_bits(),
+    })
+}
+
+/// A VTG sentence with this from the knots on.
+fn vtg_line(speeds: &str) -> String {
+    with_checksum(&format!("GPVTG,,,,,{speeds}"))
+}
+
+#[test]
+fn speed_of_vtg() {
+    let one = decimal(1, 0, 1.).unwrap();
+    let minus_zero = decimal(0, 1, -0.).unwrap();
+    let kilometre = 0.539_956_8;
+    for (speeds, expected) in [
+        (",,", None),
+        (",N,", None),
+        // As receivers write it.
+        (",N,1,K", None),
+        ("1,N,1.9,K", speed('N', one, 1.)),
+        // km/h behind the letter, and in its place.
+        (",N1,", speed('K', one, kilometre)),
+        (",1,", speed('K', one, kilometre)),
+        (",N1,K", speed('K', one, kilometre)),
+        // Knots where there are both.
+        ("1,N7,", speed('N', one, 1.)),
+        ("-0.0,N7,", speed('N', minus_zero, -0.)),
+        (",N-0.0,", speed('K', minus_zero, -0.)),
+    ] {
+        let line = vtg_line(speeds);
+        assert_eq!(exact(&line).speed, expected, "{speeds}");
+        let knots = expected.map(|speed| speed.knots);
+        assert_eq!(vtg(&line).speed, knots, "{speeds}");
+    }
+    assert_eq!(vtg_line(",N1,"), "$GPVTG,,,,,,N1,*01");
+}
+
+#[test]
+fn kilometres_are_divided_once_in_an_f32() {
+    for (text, whole, power) in [
+        ("1.852", 1852u32, 1000u32),
+        ("3.7", 37, 10),
+        ("9999999", 9_999_999, 1),
+        ("0.000001", 1, 1_000_000),
+        ("1234.567", 1_234_567, 1000),
+    ] {
+        let written = whole as f32 / power as f32;
+        let line = vtg_line(&format!(",N{text},"));
+        assert_eq!(
+            vtg(&line).speed,
+            Some((written / 1.852).to_bits()),
+            "{text}"
+        );
+        let negative = vtg_line(&format!(",N-{text},"));
+        let knots = Some((-written / 1.852).to_bits());
+        assert_eq!(vtg(&negative).speed, knots, "{text}");
+    }
+}
+
+#[test]
+fn what_is_no_speed_of_vtg() {
+    // Number wherever the text is reached and is no plain decimal.
+    for speeds in [
+        "1x,N,", ",K", ",K,", ",n,", ",NK,", ",NN,", ",N ,", ",N1e1,", "1,N1e1,", "1,N1e1", ",1N,",
+        ",NaN,",
+    ] {
+        assert_eq!(owed_number(&vtg_line(speeds)), 9, "{speeds}");
+    }
+    // Syntax where a comma is missing behind a good one.
+    for speeds in ["", "1", "1,", "1,N", ",N1", ",1"] {
+        let line = vtg_line(speeds);
+        assert_eq!(refused(line.as_bytes()), Refusal::Syntax, "{speeds}");
+        assert_eq!(owed_number(&line), 4, "{speeds}");
+    }
+}
+
+#[test]
+fn courses_of_vtg() {
+    let course = |body: &str| vtg(&with_checksum(&format!("GPVTG,{body}"))).course;
+    assert_eq!(course("90,T,,,,,"), short(90, 1));
+    assert_eq!(course("-90.0,,,,,,"), Some((-90f32).to_bits()));
+    // The magnetic course is read, and not kept.
+    assert_eq!(course(",,90,M,,,"), None);
+    for (body, number) in [
+        (",,1e5,,,,", 9),
+        ("1e5,,,,,,", 9),
+        ("1x,E", 9),
+        (",,1x", 9),
+        ("90,E,,,,,", 4),
+        ("90,TT,,,,,", 4),
+        ("90,E,1x,,,,", 4),
+        (",T,90,T,,,", 4),
+        ("90", 4),
+        ("90,T", 4),
+        ("90,T,90", 4),
+        ("90,T,90,M", 4),
+    ] {
+        let line = with_checksum(&format!("GPVTG,{body}"));
+        assert_eq!(owed_number(&line), number, "{body}");
+    }
+    assert_eq!(with_checksum("GPVTG,,,1e5,,,,"), "$GPVTG,,,1e5,,,,*1F");
+}
+
 // Readers of one type
 
 #[test]
 fn readers_of_one_type_accept_their_own() {
+    assert_eq!(crate_gga(GGA.as_bytes()), Ok(gga(GGA)));
+    assert_eq!(crate_gll(GLL.as_bytes()), Ok(gll(GLL)));
+    assert_eq!(crate_vtg(VTG.as_bytes()), Ok(vtg(VTG)));
     let gsa_line = "$GPGSA,A,3,,,,,,16,18,,22,24,,,3.6,2.1,2.2*3C";
     assert_eq!(crate_rmc(RMC.as_bytes()), Ok(rmc(RMC)));
     assert_eq!(crate_gsa(gsa_line.as_bytes()), Ok(gsa(gsa_line)));
@@ -780,6 +1153,9 @@ fn readers_of_one_type_refuse_other_known_types() {
     assert_eq!(crate_rmc(GSV_1.as_bytes()), Err(wrong(b"RMC", b"GSV")));
     assert_eq!(crate_gsa(RMC.as_bytes()), Err(wrong(b"GSA", b"RMC")));
     assert_eq!(crate_gsv(dbs.as_bytes()), Err(wrong(b"GSV", b"DBS")));
+    assert_eq!(crate_gga(GLL.as_bytes()), Err(wrong(b"GGA", b"GLL")));
+    assert_eq!(crate_gll(VTG.as_bytes()), Err(wrong(b"GLL", b"VTG")));
+    assert_eq!(crate_vtg(GGA.as_bytes()), Err(wrong(b"VTG", b"GGA")));
     // The talker XX names no system, but the type comes first.
     let line = with_checksum("XXRMC,");
     assert_eq!(crate_gsv(line.as_bytes()), Err(wrong(b"GSV", b"RMC")));

@@ -162,6 +162,89 @@ fn gsv() {
 }
 
 #[test]
+fn gga() {
+    let latitude: f64 = 51. + 30.5 / 60.;
+    let longitude: f64 = -(6. / 60.);
+    let first: [&[u64]; 8] = [
+        &[6, letter('G'), letter('N')],
+        &[1, 10, 15, 0, 250_000_000],
+        &[1, 0, 3_090_500_000_000, letter('N'), latitude.to_bits()],
+        &[1, 6_000_000_000, letter('W'), longitude.to_bits()],
+        &[letter('2'), 1, 7],
+        &[1, 0, 125, 2, f32_bits(1.25)],
+        &[1, 1, 35, 1, f32_bits(-3.5)],
+        &[1, 0, 470, 1, f32_bits(47.)],
+    ];
+    let line = with_checksum("GNGGA,101500.25,5130.5,N,00006.0,W,2,07,1.25,-3.5,M,47.0,M,,");
+    only(line, &first.concat(), Domain::Inside);
+    // Nothing but the fix, and each decimal by itself.
+    let bare = |at: usize, part: &[u64]| {
+        let mut first = words(&[6, letter('G'), letter('P')]);
+        first[17] = letter('0');
+        first[at..at + part.len()].copy_from_slice(part);
+        first
+    };
+    let minus_zero = [1, 0, 0, 0, f32_bits(-0.)];
+    for (body, first) in [
+        ("GPGGA,,,,,,0,,,,,,", bare(0, &[6])),
+        (
+            "GPGGA,,,,,,0,4294967295,,,,,",
+            bare(18, &[1, 4_294_967_295]),
+        ),
+        ("GPGGA,,,,,,0,0,,,,,", bare(18, &[1, 0])),
+        ("GPGGA,,,,,,0,,-0,,,,", bare(20, &minus_zero)),
+        ("GPGGA,,,,,,0,,,-0,,,", bare(25, &minus_zero)),
+        ("GPGGA,,,,,,0,,,,,-0,", bare(30, &minus_zero)),
+    ] {
+        only(with_checksum(body), &first, Domain::Inside);
+    }
+}
+
+#[test]
+fn gll() {
+    let latitude: f64 = 51. + 30.5 / 60.;
+    let longitude: f64 = -(6. / 60.);
+    let first: [&[u64]; 5] = [
+        &[7, letter('G'), letter('N')],
+        &[1, 0, 3_090_500_000_000, letter('N'), latitude.to_bits()],
+        &[1, 6_000_000_000, letter('W'), longitude.to_bits()],
+        &[1, 10, 15, 0, 250_000_000],
+        &[letter('A'), letter('D')],
+    ];
+    let line = with_checksum("GNGLL,5130.5,N,00006.0,W,101500.25,A,D");
+    only(line, &first.concat(), Domain::Inside);
+    let mut first = words(&[7, letter('G'), letter('P')]);
+    first[17] = letter('V');
+    only(with_checksum("GPGLL,,,,,,V,"), &first, Domain::Inside);
+}
+
+#[test]
+fn vtg() {
+    let head = [8, letter('G'), letter('P')];
+    let none = [0; 5];
+    let course = [1, 0, 547, 1, f32_bits(54.7)];
+    let knots = f32_bits(5.5);
+    let speed = [1, letter('N'), 0, 55, 1, knots, knots];
+    let line = with_checksum("GPVTG,054.7,T,034.4,M,005.5,N,010.2,K");
+    let first = [&head[..], &course, &speed].concat();
+    only(line, &first, Domain::Inside);
+    // The same in km/h, behind the N and in its place.
+    let speed = [1, letter('K'), 0, 55, 1, knots, f32_bits(5.5 / 1.852)];
+    let first = [&head[..], &none, &speed].concat();
+    for body in ["GPVTG,,,,,,N5.5,", "GPVTG,,,,,,05.5,K"] {
+        only(with_checksum(body), &first, Domain::Inside);
+    }
+    let speed = [1, letter('K'), 0, 0, 0, f32_bits(-0.), f32_bits(-0.)];
+    let first = [&head[..], &none, &speed].concat();
+    only(with_checksum("GPVTG,,,,,,N-0,"), &first, Domain::Inside);
+    let speed = [1, letter('N'), 1, 1, 0, f32_bits(-1.), f32_bits(-1.)];
+    let first = [&head[..], &none, &speed].concat();
+    only(with_checksum("GPVTG,,,,,-1,N7,"), &first, Domain::Inside);
+    // Nothing, as the usual km/h are not read.
+    only(with_checksum("GPVTG,,,,,,N,1,K"), &head, Domain::Inside);
+}
+
+#[test]
 fn other() {
     let [g, p, t, x] = ['G', 'P', 'T', 'X'].map(letter);
     let first = [4, g, p, t, x, t];
@@ -183,6 +266,7 @@ fn refusals() {
     );
     only("$GPGSA,A,1,,,,2*00", &[5, 8, 2, 1, 2], Domain::Inside);
     only("$GNRMC,,A,,,,,+1,,,,*22", &[5, 9], Domain::Outside);
+    only("$GPVTG,,,1e5,,,,*1F", &[5, 9], Domain::Outside);
 }
 
 #[test]
@@ -197,6 +281,12 @@ fn number_is_answered_exactly_where_a_wrong_decimal_is_reached() {
         "GNRMC,0000-1e1,A,,,,,,,,,",
         "GNRMC,99991x,A,,,,,,,,,",
         "GNRMC,,A,,,,,1x",
+        // Also where the crate drops it, and where the N was looked for.
+        "GPVTG,,,1x,,,,",
+        "GPVTG,,,,,1,N1x,",
+        "GPVTG,,,,,,K,",
+        "GPGGA,,,,,,1,,,1x,F,,",
+        "GPGLL,,,,,00001x,B",
     ];
     for body in due {
         let line = with_checksum(body);
@@ -211,6 +301,11 @@ fn number_is_answered_exactly_where_a_wrong_decimal_is_reached() {
         "GNRMC,,X,,,,,1x,,,,",
         // A whole PDOP is an item, however long.
         "GNGSA,A,1,12345678,1.0,1",
+        // A fix, a count and a unit stand before a decimal.
+        "GPGGA,,,,,,9,,1x,,,,",
+        "GPGGA,,,,,,1,4294967296,1x,,,,",
+        "GPGGA,,,,,,1,,,,F,1x,",
+        "GPVTG,,E,1x,,,,",
     ];
     for body in not_due {
         let line = with_checksum(body);
@@ -541,6 +636,114 @@ fn gsv_by_the_names_of_the_header() -> Result<(), Box<dyn Error>> {
             ),
         ],
     )
+}
+
+#[test]
+fn gga_by_the_names_of_the_header() -> Result<(), Box<dyn Error>> {
+    answered(
+        "GNGGA,101500.25,5130.5,N,00006.0,W,5,07,1.25,-3.5,M,47.0,M,,",
+        &[
+            ("KIND", of_header("GGA") as u64),
+            ("TALKER", letter('G')),
+            ("TALKER + 1", letter('N')),
+            ("GGA_TIME", 1),
+            ("GGA_TIME + TIME_HOUR", 10),
+            ("GGA_TIME + TIME_MINUTE", 15),
+            ("GGA_TIME + TIME_SECOND", 0),
+            ("GGA_TIME + TIME_NANOSECOND", 250_000_000),
+            ("GGA_POSITION", 1),
+            ("GGA_LATITUDE + COORDINATE_SIGN", 0),
+            ("GGA_LATITUDE + COORDINATE_SIZE", 3_090_500_000_000),
+            ("GGA_LATITUDE + COORDINATE_LETTER", letter('N')),
+            (
+                "GGA_LATITUDE + COORDINATE_DEGREES",
+                f64::to_bits(51. + 30.5 / 60.),
+            ),
+            ("GGA_LONGITUDE + COORDINATE_SIGN", 1),
+            ("GGA_LONGITUDE + COORDINATE_SIZE", 6_000_000_000),
+            ("GGA_LONGITUDE + COORDINATE_LETTER", letter('W')),
+            ("GGA_LONGITUDE + COORDINATE_DEGREES", f64::to_bits(-0.1)),
+            ("GGA_FIX", letter('5')),
+            ("GGA_SATELLITES", 1),
+            ("GGA_SATELLITES + OPTION_NUMBER", 7),
+            ("GGA_HDOP", 1),
+            ("GGA_HDOP + DECIMAL_SIGN", 0),
+            ("GGA_HDOP + DECIMAL_SIZE", 125),
+            ("GGA_HDOP + DECIMAL_DECIMALS", 2),
+            ("GGA_HDOP + DECIMAL_VALUE", f32_bits(1.25)),
+            ("GGA_ALTITUDE", 1),
+            ("GGA_ALTITUDE + DECIMAL_SIGN", 1),
+            ("GGA_ALTITUDE + DECIMAL_SIZE", 35),
+            ("GGA_ALTITUDE + DECIMAL_DECIMALS", 1),
+            ("GGA_ALTITUDE + DECIMAL_VALUE", f32_bits(-3.5)),
+            ("GGA_GEOID", 1),
+            ("GGA_GEOID + DECIMAL_SIGN", 0),
+            ("GGA_GEOID + DECIMAL_SIZE", 470),
+            ("GGA_GEOID + DECIMAL_DECIMALS", 1),
+            ("GGA_GEOID + DECIMAL_VALUE", f32_bits(47.)),
+        ],
+    )
+}
+
+#[test]
+fn gll_by_the_names_of_the_header() -> Result<(), Box<dyn Error>> {
+    answered(
+        "GNGLL,5130.5,N,00006.0,W,101500.25,V,N",
+        &[
+            ("KIND", of_header("GLL") as u64),
+            ("TALKER", letter('G')),
+            ("TALKER + 1", letter('N')),
+            ("GLL_POSITION", 1),
+            ("GLL_LATITUDE + COORDINATE_SIGN", 0),
+            ("GLL_LATITUDE + COORDINATE_SIZE", 3_090_500_000_000),
+            ("GLL_LATITUDE + COORDINATE_LETTER", letter('N')),
+            (
+                "GLL_LATITUDE + COORDINATE_DEGREES",
+                f64::to_bits(51. + 30.5 / 60.),
+            ),
+            ("GLL_LONGITUDE + COORDINATE_SIGN", 1),
+            ("GLL_LONGITUDE + COORDINATE_SIZE", 6_000_000_000),
+            ("GLL_LONGITUDE + COORDINATE_LETTER", letter('W')),
+            ("GLL_LONGITUDE + COORDINATE_DEGREES", f64::to_bits(-0.1)),
+            ("GLL_TIME", 1),
+            ("GLL_TIME + TIME_HOUR", 10),
+            ("GLL_TIME + TIME_MINUTE", 15),
+            ("GLL_TIME + TIME_SECOND", 0),
+            ("GLL_TIME + TIME_NANOSECOND", 250_000_000),
+            ("GLL_STATUS", letter('V')),
+            ("GLL_MODE", letter('N')),
+        ],
+    )
+}
+
+#[test]
+fn vtg_by_the_names_of_the_header() -> Result<(), Box<dyn Error>> {
+    for (body, unit, knots) in [
+        ("GPVTG,270.5,T,,M,-7.5,N,,K,A", 'N', -7.5),
+        ("GPVTG,270.5,T,,M,,N-7.5,K", 'K', -7.5 / 1.852),
+    ] {
+        answered(
+            body,
+            &[
+                ("KIND", of_header("VTG") as u64),
+                ("TALKER", letter('G')),
+                ("TALKER + 1", letter('P')),
+                ("VTG_COURSE", 1),
+                ("VTG_COURSE + DECIMAL_SIGN", 0),
+                ("VTG_COURSE + DECIMAL_SIZE", 2705),
+                ("VTG_COURSE + DECIMAL_DECIMALS", 1),
+                ("VTG_COURSE + DECIMAL_VALUE", f32_bits(270.5)),
+                ("VTG_SPEED", 1),
+                ("VTG_SPEED + SPEED_UNIT", letter(unit)),
+                ("VTG_SPEED + SPEED_SIGN", 1),
+                ("VTG_SPEED + SPEED_SIZE", 75),
+                ("VTG_SPEED + SPEED_DECIMALS", 1),
+                ("VTG_SPEED + SPEED_VALUE", f32_bits(-7.5)),
+                ("VTG_SPEED + SPEED_KNOTS", f32_bits(knots)),
+            ],
+        )?;
+    }
+    Ok(())
 }
 
 #[test]

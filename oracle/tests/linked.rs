@@ -88,6 +88,9 @@ fn a_line_is_taken_with_words_and_a_table_that_are_long_enough() {
         (with_checksum("GPGSV,1,1,00,"), GROUP),
         (with_checksum("GPGSV,1,2,00,"), NO_RUN),
         (with_checksum("GPTXT,i"), NO_GSV),
+        (with_checksum("GPGGA,,,,,,1,,,,,,"), NO_GSV),
+        (with_checksum("GPGLL,,,,,,A,"), NO_GSV),
+        (with_checksum("GPVTG,,,,,,N1,"), NO_GSV),
         (String::new(), NO_GSV),
         ("x".into(), NO_GSV),
     ];

@@ -33,6 +33,12 @@ fn a_short_comparison() -> io::Result<()> {
         "100  short decimals, of 76543210",
         "100  negative short decimals, of 76543210",
         "100  degrees and signed minutes, of 29241840",
+        "100  satellites of GGA, of 300000",
+        "100  few digits in GGA and VTG, of 691360",
+        "100  short decimals of GGA and VTG, of 76543210",
+        "100  negative ones of GGA and VTG, of 76543210",
+        "100  speeds in km/h, of 76543210",
+        "100  negative speeds in km/h, of 76543210",
         "1000  generated",
     ] {
         assert!(printed.contains(part), "{printed}");

@@ -61,7 +61,7 @@ fn the_file_is_what_its_header_says() {
 #[test]
 fn every_class_is_there() {
     let (_, frames) = read();
-    assert!(frames.len() >= 2_000 && FILE.len() < 1_000_000);
+    assert!(frames.len() >= 3_000 && FILE.len() < 1_500_000);
     let mut counts = [0; Class::COUNT];
     for (_, words) in &frames {
         let answer = answer_of(words).expect("words of an answer").answer;

@@ -12,6 +12,9 @@ const LONGEST_LOG: usize = 65_536;
 /// A round of one side goes over its lines until so many were read.
 const LINES_A_ROUND: usize = 40_000;
 
+/// The classes of lines: the types that are read, and the others.
+const CLASSES: [&str; 8] = ["rmc", "gsa", "gsv", "gga", "gll", "vtg", "other", "refused"];
+
 pub fn run() -> Result<(), Box<dyn Error>> {
     let rounds = rounds()?;
     let lines: Vec<Vec<u8>> = corpus_lines()?
@@ -30,7 +33,7 @@ pub fn run() -> Result<(), Box<dyn Error>> {
     println!("class        lines  bytes  ours  whole answer  crate  ratio  floor  ours over floor");
     let mut ratios = vec![];
     let mut whole_ratios = vec![];
-    for class in ["rmc", "gsa", "gsv", "other", "refused"] {
+    for class in CLASSES {
         let lines = of(class);
         if lines.is_empty() {
             return Err(format!("the logs have no line of the class {class}").into());
@@ -198,6 +201,9 @@ fn class_of(line: &[u8]) -> &'static str {
         2 => "gsa",
         3 => "gsv",
         4 => "other",
+        6 => "gga",
+        7 => "gll",
+        8 => "vtg",
         _ => "refused",
     }
 }

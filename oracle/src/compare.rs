@@ -17,9 +17,6 @@ use crate::{
 /// How many threads compare at once.
 const THREADS: usize = 2;
 
-/// How many lines a thread takes at once.
-const BATCH: u64 = 1000;
-
 /// What is compared beside the worked lines and the logs.
 #[derive(Clone, Copy, Debug)]
 pub struct Plan {
@@ -131,9 +128,10 @@ impl Work<'_> {
         if is_late || self.is_over.load(Ordering::Relaxed) {
             return false;
         }
-        let start = self.next.fetch_add(BATCH, Ordering::Relaxed);
+        let size = self.ours.batch();
+        let start = self.next.fetch_add(size, Ordering::Relaxed);
         batch.clear();
-        self.part.fill(start..self.wanted.min(start + BATCH), batch);
+        self.part.fill(start..self.wanted.min(start + size), batch);
         !batch.is_empty()
     }
 

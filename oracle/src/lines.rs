@@ -26,5 +26,6 @@ pub use exhaustive::exhaustive_parts;
 pub use generator::Generator;
 pub use log::generated_log;
 pub use part::Part;
+pub(crate) use part::BLOCK;
 pub use table::TableGenerator;
 pub use worked::{comment_lines, worked_lines};

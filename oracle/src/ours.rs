@@ -4,7 +4,12 @@ use std::{
     thread,
 };
 
-use crate::{lines::Batch, program::Program, words::WORDS, Words};
+use crate::{
+    lines::{Batch, BLOCK},
+    program::Program,
+    words::WORDS,
+    Words,
+};
 
 /// The longest line that the program takes.
 pub const LONGEST_FRAME: usize = 4096;
@@ -41,6 +46,16 @@ impl Ours {
     /// The program, or what is missing of it.
     pub fn piped() -> Result<Self, String> {
         Program::find("answers").map(|program| Ours::Piped(Piped(program)))
+    }
+
+    /// How many lines are asked at once: a multiple of a block of generated lines.
+    /// A program is started for each batch, which takes as long as some thousand
+    /// answers.
+    pub(crate) fn batch(&self) -> u64 {
+        match self {
+            Ours::Called(_) => BLOCK,
+            Ours::Piped(_) => 20 * BLOCK,
+        }
     }
 
     /// Our answers to some lines.

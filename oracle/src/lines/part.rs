@@ -5,6 +5,9 @@ use super::{Batch, Generator};
 /// A prime above the count of every list.
 const PRIME: u64 = 2_654_435_761;
 
+/// How many lines are generated from one start.
+pub(crate) const BLOCK: u64 = 1000;
+
 /// A part of what both sides are asked: lines in a fixed order.
 pub struct Part {
     pub name: &'static str,
@@ -47,9 +50,12 @@ impl Part {
     /// Lines made from a seed, without end.
     pub fn generated(seed: u64) -> Self {
         let fill = move |range: Range<u64>, batch: &mut Batch| {
-            let mut generator = Generator::of_block(seed, range.start);
-            for _ in range {
-                batch.push(generator.line());
+            // The same lines come in whatever batches they are asked for.
+            for start in range.clone().step_by(BLOCK as usize) {
+                let mut generator = Generator::of_block(seed, start);
+                for _ in start..range.end.min(start + BLOCK) {
+                    batch.push(generator.line());
+                }
             }
         };
         Part {

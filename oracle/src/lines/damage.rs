@@ -4,7 +4,7 @@ use super::draft::Draft;
 use crate::repair;
 
 /// Bytes that mean something somewhere in a sentence.
-const MEANINGFUL: &[u8] = b",,,,*$.+-0123456789ABDEGLMNPQRSVW \r\n\0";
+const MEANINGFUL: &[u8] = b",,,,*$.+-0123456789ABCDEFGKLMNPQRSTUVW \r\n\0";
 
 /// UTF-8 at the edges of its ranges.
 const VALID: [&[u8]; 10] = [

@@ -90,6 +90,15 @@ fn the_lines_of_each_type_that_is_read() -> Result<(), Box<dyn Error>> {
         if let Some(index) = TYPES.iter().position(is_of) {
             let class = answer_of(&words)?.answer.class();
             *met[index].entry(class).or_default() += 1;
+            // docs/ODD-READINGS.md: none has its speed in km/h alone.
+            if TYPES[index] == "VTG" {
+                let fields: Vec<&[u8]> = line.split(|&byte| byte == b',').collect();
+                assert!(
+                    !fields[5].is_empty() || fields.get(7).is_none_or(|field| field.is_empty()),
+                    "{}",
+                    line.escape_ascii()
+                );
+            }
         }
     }
     let counts: Vec<String> = TYPES

@@ -37,6 +37,9 @@ uint32_t nmea_answer(const uint8_t *line, size_t length, uint64_t *words, size_t
 #define NMEA_GSV 3
 #define NMEA_OTHER 4
 #define NMEA_REFUSED 5
+#define NMEA_GGA 6
+#define NMEA_GLL 7
+#define NMEA_VTG 8
 
 /* Of RMC. */
 #define NMEA_RMC_TIME 3
@@ -69,6 +72,29 @@ uint32_t nmea_answer(const uint8_t *line, size_t length, uint64_t *words, size_t
 #define NMEA_GSV_VIEW 6
 #define NMEA_GSV_ENTRIES 7
 
+/* Of GGA. */
+#define NMEA_GGA_TIME 3
+#define NMEA_GGA_POSITION 8
+#define NMEA_GGA_LATITUDE 9
+#define NMEA_GGA_LONGITUDE 13
+#define NMEA_GGA_FIX 17
+#define NMEA_GGA_SATELLITES 18
+#define NMEA_GGA_HDOP 20
+#define NMEA_GGA_ALTITUDE 25
+#define NMEA_GGA_GEOID 30
+
+/* Of GLL. */
+#define NMEA_GLL_POSITION 3
+#define NMEA_GLL_LATITUDE 4
+#define NMEA_GLL_LONGITUDE 8
+#define NMEA_GLL_TIME 12
+#define NMEA_GLL_STATUS 17
+#define NMEA_GLL_MODE 18
+
+/* Of VTG. */
+#define NMEA_VTG_COURSE 3
+#define NMEA_VTG_SPEED 8
+
 /* Of a known type that we do not read: its three letters. */
 #define NMEA_OTHER_TYPE 3
 
@@ -78,7 +104,8 @@ uint32_t nmea_answer(const uint8_t *line, size_t length, uint64_t *words, size_t
 #define NMEA_REFUSED_VALUES 3
 
 /* Words of a part are counted from the part's place: words[NMEA_RMC_TIME + NMEA_TIME_HOUR]. At the place itself stands 1 if the part is
- * there, and else it has only zeros; a coordinate and a DOP have no such word, since NMEA_RMC_POSITION and NMEA_GSA_DOPS say it. */
+ * there, and else it has only zeros; a coordinate and a DOP have no such word, since NMEA_RMC_POSITION, NMEA_GGA_POSITION,
+ * NMEA_GLL_POSITION and NMEA_GSA_DOPS say it. */
 
 /* Of the time and the date. */
 #define NMEA_TIME_HOUR 1
@@ -96,17 +123,27 @@ uint32_t nmea_answer(const uint8_t *line, size_t length, uint64_t *words, size_t
 #define NMEA_COORDINATE_LETTER 2
 #define NMEA_COORDINATE_DEGREES 3
 
-/* Of speed, course and variation. Of minus zero sign and size are 0: the float's sign bit tells it. */
+/* Of RMC's speed, course and variation, of GGA's HDOP, altitude and geoid separation, and of VTG's course. Of minus zero sign and size
+ * are 0: the float's sign bit tells it. */
 #define NMEA_DECIMAL_SIGN 1
 #define NMEA_DECIMAL_SIZE 2
 #define NMEA_DECIMAL_DECIMALS 3
 #define NMEA_DECIMAL_VALUE 4
 
-/* Of PDOP, HDOP and VDOP; minus zero is told as above. */
+/* Of GSA's PDOP, HDOP and VDOP; minus zero is told as above. */
 #define NMEA_DOP_SIGN 0
 #define NMEA_DOP_SIZE 1
 #define NMEA_DOP_DECIMALS 2
 #define NMEA_DOP_VALUE 3
+
+/* Of VTG's speed: its unit, the letter N for knots or K for km/h; the decimal as it is written, minus zero told as above; and its float
+ * in knots, which for km/h is the decimal's divided once by the float nearest to 1.852. */
+#define NMEA_SPEED_UNIT 1
+#define NMEA_SPEED_SIGN 2
+#define NMEA_SPEED_SIZE 3
+#define NMEA_SPEED_DECIMALS 4
+#define NMEA_SPEED_VALUE 5
+#define NMEA_SPEED_KNOTS 6
 
 /* The entries of GSV, the words of an entry, and of these its parts. */
 #define NMEA_ENTRIES 4
@@ -116,7 +153,7 @@ uint32_t nmea_answer(const uint8_t *line, size_t length, uint64_t *words, size_t
 #define NMEA_ENTRY_AZIMUTH 4
 #define NMEA_ENTRY_SIGNAL 6
 
-/* Of an entry's elevation, azimuth and signal: the number. */
+/* Of an entry's elevation, azimuth and signal, and of GGA's satellites: the number. */
 #define NMEA_OPTION_NUMBER 1
 
 /* Systems. */

@@ -45,6 +45,13 @@ int main(void)
         return words[NMEA_GSA_DOPS] && words[NMEA_GSA_PDOP + NMEA_DOP_DECIMALS] > 6;
     case NMEA_GSV:
         return words[NMEA_GSV_SYSTEM] == NMEA_GPS;
+    case NMEA_GGA:
+        return words[NMEA_GGA_SATELLITES] && words[NMEA_GGA_SATELLITES + NMEA_OPTION_NUMBER] > 99 && words[NMEA_GGA_FIX] == '0';
+    case NMEA_GLL:
+        return words[NMEA_GLL_POSITION] && words[NMEA_GLL_LATITUDE + NMEA_COORDINATE_LETTER] == 'N' && words[NMEA_GLL_MODE] == 0;
+    case NMEA_VTG:
+        return words[NMEA_VTG_SPEED] && words[NMEA_VTG_SPEED + NMEA_SPEED_UNIT] == 'K'
+               && words[NMEA_VTG_SPEED + NMEA_SPEED_KNOTS] == words[NMEA_VTG_SPEED + NMEA_SPEED_VALUE];
     case NMEA_OTHER:
         return words[NMEA_OTHER_TYPE] == words[NMEA_TALKER];
     case NMEA_REFUSED:

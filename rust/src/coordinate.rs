@@ -4,10 +4,7 @@ use std::{
 };
 
 use crate::{
-    places::{
-        COORDINATE_DEGREES, COORDINATE_LETTER, COORDINATE_SIGN, COORDINATE_SIZE, RMC_LATITUDE,
-        RMC_LONGITUDE,
-    },
+    places::{COORDINATE_DEGREES, COORDINATE_LETTER, COORDINATE_SIGN, COORDINATE_SIZE},
     words::{Unfit, Words},
 };
 
@@ -83,10 +80,11 @@ impl Hash for Coordinate {
 }
 
 impl Position {
-    pub(crate) fn of(words: &Words) -> Result<Self, Unfit> {
+    /// One that has its latitude and its longitude at these places.
+    pub(crate) fn of(words: &Words, latitude: usize, longitude: usize) -> Result<Self, Unfit> {
         Ok(Position {
-            latitude: Coordinate::of(words, RMC_LATITUDE)?,
-            longitude: Coordinate::of(words, RMC_LONGITUDE)?,
+            latitude: Coordinate::of(words, latitude)?,
+            longitude: Coordinate::of(words, longitude)?,
         })
     }
 }

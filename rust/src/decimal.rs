@@ -6,7 +6,7 @@ use std::{
 use crate::{
     places::{
         DECIMAL_DECIMALS, DECIMAL_SIGN, DECIMAL_SIZE, DECIMAL_VALUE, DOP_DECIMALS, DOP_SIGN,
-        DOP_SIZE, DOP_VALUE,
+        DOP_SIZE, DOP_VALUE, SPEED_DECIMALS, SPEED_SIGN, SPEED_SIZE, SPEED_VALUE,
     },
     words::{Unfit, Words},
 };
@@ -34,6 +34,12 @@ impl Decimal {
     /// A dilution of precision.
     pub(crate) fn of_dop(words: &Words, at: usize) -> Result<Self, Unfit> {
         let places = [DOP_SIGN, DOP_SIZE, DOP_DECIMALS, DOP_VALUE];
+        Decimal::at(words, places.map(|place| at + place))
+    }
+
+    /// A speed as it is written.
+    pub(crate) fn of_speed(words: &Words, at: usize) -> Result<Self, Unfit> {
+        let places = [SPEED_SIGN, SPEED_SIZE, SPEED_DECIMALS, SPEED_VALUE];
         Decimal::at(words, places.map(|place| at + place))
     }
 

@@ -47,6 +47,9 @@ impl TypeName {
     pub(crate) const RMC: Self = Letters(*b"RMC");
     pub(crate) const GSA: Self = Letters(*b"GSA");
     pub(crate) const GSV: Self = Letters(*b"GSV");
+    pub(crate) const GGA: Self = Letters(*b"GGA");
+    pub(crate) const GLL: Self = Letters(*b"GLL");
+    pub(crate) const VTG: Self = Letters(*b"VTG");
 }
 
 /// The letters; bytes that cannot be shown are escaped.

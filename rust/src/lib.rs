@@ -22,6 +22,24 @@
 //! # Ok::<(), Refusal>(())
 //! ```
 //!
+//! Receivers that send no RMC send their places in GGA or GLL, and their speed
+//! in VTG:
+//!
+//! ```
+//! use proved_nmea::{read, FixType, Sentence};
+//!
+//! let line = b"$GPGGA,123519,4807.038,N,01131.324,E,1,08,0.9,545.4,M,46.9,M,,*42";
+//! let Sentence::Gga(fix) = read(line)? else { panic!("it is a GGA sentence") };
+//! assert_eq!(fix.fix, FixType::Gps);
+//! assert_eq!(fix.position.expect("a position").latitude.to_string(), "48 07.038000000 N");
+//! assert_eq!(fix.altitude.expect("an altitude").to_string(), "545.4");
+//!
+//! let line = b"$GPVTG,054.7,T,034.4,M,005.5,N,010.2,K*48";
+//! let Sentence::Vtg(track) = read(line)? else { panic!("it is a VTG sentence") };
+//! assert_eq!(track.speed.expect("a speed").to_string(), "5.5 knots");
+//! # Ok::<(), proved_nmea::Refusal>(())
+//! ```
+//!
 //! A log of any size is read line by line by a [`Reader`]: each line's answer,
 //! and the satellite groups that stand in the log. Both come from proved code;
 //! cutting the log into lines is plain Rust. A [`Tally`] takes lines that are
@@ -39,6 +57,8 @@ mod letters;
 pub mod abi;
 mod coordinate;
 mod decimal;
+mod gga;
+mod gll;
 mod groups;
 mod gsa;
 mod gsv;
@@ -51,10 +71,13 @@ mod sentence;
 mod system;
 mod tally;
 mod time;
+mod vtg;
 mod words;
 
 pub use coordinate::{Coordinate, Hemisphere, Position};
 pub use decimal::Decimal;
+pub use gga::{FixType, Gga};
+pub use gll::{DataStatus, Gll};
 pub use groups::Group;
 pub use gsa::{Dops, Fix, Gsa, Selection};
 pub use gsv::{Entry, Gsv};
@@ -67,6 +90,7 @@ pub use sentence::{read, refusal_number, Other, Sentence};
 pub use system::System;
 pub use tally::{Answer, Kind, Line, Tally};
 pub use time::{Date, Time};
+pub use vtg::{Speed, SpeedUnit, Vtg};
 
 /// So that the example of the README is run.
 #[cfg(doctest)]

@@ -20,6 +20,9 @@ named! {
     GSV: u64 = 3;
     OTHER: u64 = 4;
     REFUSED: u64 = 5;
+    GGA: u64 = 6;
+    GLL: u64 = 7;
+    VTG: u64 = 8;
 
     RMC_TIME: usize = 3;
     RMC_STATUS: usize = 8;
@@ -49,6 +52,26 @@ named! {
     GSV_VIEW: usize = 6;
     GSV_ENTRIES: usize = 7;
 
+    GGA_TIME: usize = 3;
+    GGA_POSITION: usize = 8;
+    GGA_LATITUDE: usize = 9;
+    GGA_LONGITUDE: usize = 13;
+    GGA_FIX: usize = 17;
+    GGA_SATELLITES: usize = 18;
+    GGA_HDOP: usize = 20;
+    GGA_ALTITUDE: usize = 25;
+    GGA_GEOID: usize = 30;
+
+    GLL_POSITION: usize = 3;
+    GLL_LATITUDE: usize = 4;
+    GLL_LONGITUDE: usize = 8;
+    GLL_TIME: usize = 12;
+    GLL_STATUS: usize = 17;
+    GLL_MODE: usize = 18;
+
+    VTG_COURSE: usize = 3;
+    VTG_SPEED: usize = 8;
+
     OTHER_TYPE: usize = 3;
 
     REFUSED_NUMBER: usize = 1;
@@ -77,6 +100,13 @@ named! {
     DOP_SIZE: usize = 1;
     DOP_DECIMALS: usize = 2;
     DOP_VALUE: usize = 3;
+
+    SPEED_UNIT: usize = 1;
+    SPEED_SIGN: usize = 2;
+    SPEED_SIZE: usize = 3;
+    SPEED_DECIMALS: usize = 4;
+    SPEED_VALUE: usize = 5;
+    SPEED_KNOTS: usize = 6;
 
     ENTRIES: usize = 4;
     ENTRY_WORDS: usize = 8;

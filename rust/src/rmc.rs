@@ -2,8 +2,8 @@ use std::time::Duration;
 
 use crate::{
     places::{
-        RMC_COURSE, RMC_DATE, RMC_MODE, RMC_NAVIGATION, RMC_POSITION, RMC_SPEED, RMC_STATUS,
-        RMC_TIME, RMC_VARIATION, TALKER,
+        RMC_COURSE, RMC_DATE, RMC_LATITUDE, RMC_LONGITUDE, RMC_MODE, RMC_NAVIGATION, RMC_POSITION,
+        RMC_SPEED, RMC_STATUS, RMC_TIME, RMC_VARIATION, TALKER,
     },
     words::{Unfit, Words},
     Date, Decimal, Position, Talker, Time,
@@ -23,7 +23,7 @@ letters! {
 }
 
 letters! {
-    /// How the fix of an RMC sentence was made.
+    /// How the fix of an RMC or a GLL sentence was made.
     #[non_exhaustive]
     Mode {
         /// By the receiver alone.
@@ -105,7 +105,9 @@ impl Rmc {
             talker: Talker::of(words, TALKER)?,
             time: words.part(RMC_TIME, Time::of)?,
             status: Status::of(words, RMC_STATUS)?,
-            position: words.part(RMC_POSITION, |words, _| Position::of(words))?,
+            position: words.part(RMC_POSITION, |words, _| {
+                Position::of(words, RMC_LATITUDE, RMC_LONGITUDE)
+            })?,
             speed: words.part(RMC_SPEED, Decimal::of)?,
             course: words.part(RMC_COURSE, Decimal::of)?,
             date: words.part(RMC_DATE, Date::of)?,

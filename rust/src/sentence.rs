@@ -1,8 +1,8 @@
 use crate::{
     abi::{self, WORDS},
-    places::{GSA, GSV, KIND, OTHER, OTHER_TYPE, REFUSED, RMC, TALKER},
+    places::{GGA, GLL, GSA, GSV, KIND, OTHER, OTHER_TYPE, REFUSED, RMC, TALKER, VTG},
     words::{proved, Unfit, Words},
-    Gsa, Gsv, Refusal, Rmc, Talker, TypeName,
+    Gga, Gll, Gsa, Gsv, Refusal, Rmc, Talker, TypeName, Vtg,
 };
 
 /// What an accepted line says.
@@ -17,6 +17,12 @@ pub enum Sentence {
     Gsv(Gsv),
     /// A right sentence of a known type that is not read.
     Other(Other),
+    /// When, where and how high, and by what fix.
+    Gga(Gga),
+    /// Where, and when.
+    Gll(Gll),
+    /// Which way, and how fast.
+    Vtg(Vtg),
 }
 
 /// A right sentence of a known type that is not read.
@@ -46,6 +52,9 @@ impl Sentence {
             Sentence::Gsa(record) => record.talker,
             Sentence::Gsv(record) => record.talker,
             Sentence::Other(other) => other.talker,
+            Sentence::Gga(record) => record.talker,
+            Sentence::Gll(record) => record.talker,
+            Sentence::Vtg(record) => record.talker,
         }
     }
 
@@ -56,6 +65,9 @@ impl Sentence {
             Sentence::Gsa(_) => TypeName::GSA,
             Sentence::Gsv(_) => TypeName::GSV,
             Sentence::Other(other) => other.type_name,
+            Sentence::Gga(_) => TypeName::GGA,
+            Sentence::Gll(_) => TypeName::GLL,
+            Sentence::Vtg(_) => TypeName::VTG,
         }
     }
 }
@@ -87,6 +99,9 @@ pub(crate) fn answer(words: &Words) -> Result<Result<Sentence, Refusal>, Unfit> 
         GSV => Ok(Sentence::Gsv(Gsv::of(words)?)),
         OTHER => Ok(Sentence::Other(Other::of(words)?)),
         REFUSED => Err(Refusal::of(words)?),
+        GGA => Ok(Sentence::Gga(Gga::of(words)?)),
+        GLL => Ok(Sentence::Gll(Gll::of(words)?)),
+        VTG => Ok(Sentence::Vtg(Vtg::of(words)?)),
         _ => return Err(words.unfit(KIND)),
     })
 }

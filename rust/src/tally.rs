@@ -2,7 +2,7 @@ use std::fmt;
 
 use crate::{
     abi::{self, GROUP, NO_GSV, TABLE, WAITS, WORDS},
-    places::{GSA, GSV, GSV_NUMBER, GSV_SYSTEM, KIND, OTHER, REFUSED, RMC},
+    places::{GGA, GLL, GSA, GSV, GSV_NUMBER, GSV_SYSTEM, KIND, OTHER, REFUSED, RMC, VTG},
     sentence,
     words::{proved, Unfit, Words},
     Group, Refusal, Sentence, Totals,
@@ -66,6 +66,12 @@ pub enum Kind {
     Other,
     /// Refused.
     Refused,
+    /// A GGA sentence.
+    Gga,
+    /// A GLL sentence.
+    Gll,
+    /// A VTG sentence.
+    Vtg,
 }
 
 /// What a line says.
@@ -140,6 +146,9 @@ impl Tally {
             GSV => Kind::Gsv,
             OTHER => Kind::Other,
             REFUSED => Kind::Refused,
+            GGA => Kind::Gga,
+            GLL => Kind::Gll,
+            VTG => Kind::Vtg,
             _ => return Err(words.unfit(KIND)),
         })
     }

@@ -3,7 +3,8 @@
 use std::fmt::{self, Display, Write};
 
 use proved_nmea::{
-    Answer, Coordinate, Decimal, Entry, Group, Gsa, Gsv, Line, Refusal, Rmc, Sentence, Totals,
+    Answer, Coordinate, Decimal, Entry, Gga, Gll, Group, Gsa, Gsv, Line, Position, Refusal, Rmc,
+    Sentence, Speed, Totals, Vtg,
 };
 
 use crate::summary::{after_checksum, Summary};
@@ -100,6 +101,9 @@ pub fn line(text: &mut String, file: &str, line: &Line) {
             Answer::Sentence(Sentence::Rmc(_)) => "rmc",
             Answer::Sentence(Sentence::Gsa(_)) => "gsa",
             Answer::Sentence(Sentence::Gsv(_)) => "gsv",
+            Answer::Sentence(Sentence::Gga(_)) => "gga",
+            Answer::Sentence(Sentence::Gll(_)) => "gll",
+            Answer::Sentence(Sentence::Vtg(_)) => "vtg",
             Answer::Sentence(_) => "other",
             Answer::Refused(_) => "refused",
             Answer::Blank => "blank",
@@ -115,6 +119,9 @@ pub fn line(text: &mut String, file: &str, line: &Line) {
                     Sentence::Rmc(record) => rmc(object, record),
                     Sentence::Gsa(record) => gsa(object, record),
                     Sentence::Gsv(record) => gsv(object, record),
+                    Sentence::Gga(record) => gga(object, record),
+                    Sentence::Gll(record) => gll(object, record),
+                    Sentence::Vtg(record) => vtg(object, record),
                     _ => {
                         object.string("talker", sentence.talker().as_str());
                         object.string("type", sentence.type_name());
@@ -138,9 +145,7 @@ fn rmc(object: &mut Object, record: &Rmc) {
         since.map(|since| since.subsec_nanos().into()),
     );
     object.string("status", record.status.letter());
-    let position = record.position;
-    object.object("latitude", position.map(|at| at.latitude), coordinate);
-    object.object("longitude", position.map(|at| at.longitude), coordinate);
+    position(object, record.position);
     object.object("speed", record.speed, decimal);
     object.object("course", record.course, decimal);
     object.object("variation", record.variation, decimal);
@@ -172,6 +177,31 @@ fn gsv(object: &mut Object, record: &Gsv) {
     object.list("satellites", record.satellites(), entry);
 }
 
+fn gga(object: &mut Object, record: &Gga) {
+    object.string("talker", record.talker.as_str());
+    object.string_or_null("time", record.time);
+    position(object, record.position);
+    object.string("fix", record.fix.letter());
+    object.number("satellites", record.satellites.map(u64::from));
+    object.object("hdop", record.hdop, decimal);
+    object.object("altitude", record.altitude, decimal);
+    object.object("geoid_separation", record.geoid_separation, decimal);
+}
+
+fn gll(object: &mut Object, record: &Gll) {
+    object.string("talker", record.talker.as_str());
+    object.string_or_null("time", record.time);
+    object.string("status", record.status.letter());
+    position(object, record.position);
+    object.string_or_null("mode", record.mode.map(|mode| mode.letter()));
+}
+
+fn vtg(object: &mut Object, record: &Vtg) {
+    object.string("talker", record.talker.as_str());
+    object.object("speed", record.speed, speed);
+    object.object("course", record.course, decimal);
+}
+
 fn refusal(object: &mut Object, refusal: &Refusal) {
     object.number("refusal", u64::from(refusal.number()));
     object.string("name", refusal.name());
@@ -198,6 +228,19 @@ fn decimal(object: &mut Object, part: Decimal) {
     object.number("decimals", u64::from(part.decimals));
     // As few digits as tell it from every other float; it is finite.
     let _ = write!(object.key("value"), "{:?}", part.value);
+}
+
+/// A decimal, its unit, and its float in knots.
+fn speed(object: &mut Object, part: Speed) {
+    decimal(object, part.written);
+    object.string("unit", part.unit.letter());
+    let _ = write!(object.key("knots"), "{:?}", part.knots);
+}
+
+/// Both coordinates, or neither.
+fn position(object: &mut Object, part: Option<Position>) {
+    object.object("latitude", part.map(|at| at.latitude), coordinate);
+    object.object("longitude", part.map(|at| at.longitude), coordinate);
 }
 
 fn coordinate(object: &mut Object, part: Coordinate) {

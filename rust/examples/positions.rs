@@ -1,5 +1,5 @@
-//! Prints the positions of a log, exactly: the time in seconds since 1970, latitude and longitude in minutes of arc
-//! (below zero where the place lies to the south or west), and the speed in knots.
+//! Prints the positions of a log's RMC sentences, exactly: the time in seconds since 1970, latitude and longitude in
+//! minutes of arc (below zero where the place lies to the south or west), and the speed in knots.
 //! `cargo run --example positions -- FILE`.
 
 use std::{env, error::Error, fs::File, io::BufReader};

@@ -2,7 +2,7 @@
 
 mod common;
 
-use common::{with_checksum, worked_log, GSV_1, GSV_2, GSV_3};
+use common::{with_checksum, worked_log, GGA, GLL, GSV_1, GSV_2, GSV_3, VTG};
 use proved_nmea::abi::{
     answer, fresh, gather, row, walk, DONE, GROUP, NO_GSV, NO_RUN, ROW, ROWS, ROW_WORDS, TABLE,
     TOTALS, UNDONE, WAITS, WORDS,
@@ -22,6 +22,108 @@ fn too_few_words_are_left_alone() {
     assert_eq!(answer(GSV_1.as_bytes(), &mut words), UNDONE);
     assert_eq!(words, [7; WORDS - 1]);
     assert_eq!(answer(b"", &mut []), UNDONE);
+}
+
+/// Every word of the three, by its number in docs/ABI.md.
+#[test]
+fn words_of_gga_gll_and_vtg() {
+    let words = |line: &str| {
+        let mut words = [7; WORDS];
+        assert_eq!(answer(line.as_bytes(), &mut words), DONE);
+        words
+    };
+    let expected = |kind: u64, talker: &[u8; 2], parts: &[&[u64]]| {
+        let [first, second] = talker.map(u64::from);
+        let mut words = [&[kind, first, second], &parts.concat()[..]].concat();
+        assert!(words.len() <= WORDS);
+        words.resize(WORDS, 0);
+        words
+    };
+    let letter = |letter: u8| [u64::from(letter)];
+    let single = |value: f32| u64::from(value.to_bits());
+    let north = [0, 2_887_038_000_000, b'N'.into(), 48.1173f64.to_bits()];
+    let east = [
+        0,
+        691_324_000_000,
+        b'E'.into(),
+        11.522066666666667f64.to_bits(),
+    ];
+    let gga = expected(
+        6,
+        b"GP",
+        &[
+            &[1, 12, 35, 19, 0],
+            &[1],
+            &north,
+            &east,
+            &letter(b'1'),
+            &[1, 8],
+            &[1, 0, 9, 1, single(0.9)],
+            &[1, 0, 5454, 1, single(545.4)],
+            &[1, 0, 469, 1, single(46.9)],
+        ],
+    );
+    assert_eq!(words(GGA)[..], gga);
+    let bare = expected(6, b"GN", &[&[0; 14], &letter(b'8')]);
+    assert_eq!(words(&with_checksum("GNGGA,,,,,,8,,,,,,"))[..], bare);
+    let signs = expected(
+        6,
+        b"GP",
+        &[
+            &[0; 14],
+            &letter(b'0'),
+            &[1, 0],
+            &[1, 0, 0, 0, 0x8000_0000],
+            &[1, 1, 45, 1, single(-4.5)],
+            &[1, 0, 0, 1, 0x8000_0000],
+        ],
+    );
+    let line = with_checksum("GPGGA,,,,,,0,0,-0,-4.5,,-0.0,");
+    assert_eq!(words(&line)[..], signs);
+
+    let north = [
+        0,
+        3_067_001_341_400,
+        b'N'.into(),
+        51.116689023333336f64.to_bits(),
+    ];
+    let west = [
+        1,
+        6_842_327_914_400,
+        b'W'.into(),
+        (-114.03879857333334f64).to_bits(),
+    ];
+    let gll = expected(
+        7,
+        b"GP",
+        &[
+            &[1],
+            &north,
+            &west,
+            &[1, 20, 54, 12, 0],
+            &letter(b'A'),
+            &letter(b'A'),
+        ],
+    );
+    assert_eq!(words(GLL)[..], gll);
+    let bare = expected(7, b"GN", &[&[0; 14], &letter(b'V')]);
+    assert_eq!(words(&with_checksum("GNGLL,,,,,,V,"))[..], bare);
+
+    let speed = [1, b'N'.into(), 0, 0, 1, 0, 0];
+    let vtg = expected(8, b"GP", &[&[1, 0, 3600, 1, single(360.0)], &speed]);
+    assert_eq!(words(VTG)[..], vtg);
+    let (value, knots) = (single(-10.2), 0xC0B0_3DED);
+    let speed = [1, b'K'.into(), 1, 102, 1, value, knots];
+    let vtg = expected(8, b"GN", &[&[0; 5], &speed]);
+    assert_eq!(words(&with_checksum("GNVTG,,,,,,N-10.2,"))[..], vtg);
+    let (zero, minus) = ([1, 0, 0, 0, 0x8000_0000], 0x8000_0000);
+    let speed = [1, b'K'.into(), 0, 0, 2, minus, minus];
+    let vtg = expected(8, b"GN", &[&zero, &speed]);
+    assert_eq!(words(&with_checksum("GNVTG,-0,,,,,-0.00,"))[..], vtg);
+    assert_eq!(
+        words(&with_checksum("GNVTG,,,,,,,"))[..],
+        expected(8, b"GN", &[])
+    );
 }
 
 /// The sign word is that of the whole number, and 0 of minus zero, which the float's bits tell; a coordinate's is that of
@@ -121,6 +223,13 @@ fn lines_of_a_group() {
     assert_eq!(gather(b"$GPGSA,A,1,,,,*33", &mut words, &mut table), NO_GSV);
     assert_eq!((words[0], words[1]), (5, 6));
     assert_eq!(gather(b"$GPGSA,A,1,,,,*32", &mut words, &mut table), NO_GSV);
+    for (line, kind) in [(GGA, 6), (GLL, 7), (VTG, 8)] {
+        assert_eq!(gather(line.as_bytes(), &mut words, &mut table), NO_GSV);
+        assert_eq!(words[0], kind);
+        let mut alone = [0; WORDS];
+        answer(line.as_bytes(), &mut alone);
+        assert_eq!(words[..WORDS], alone);
+    }
     assert_eq!(table, before);
 
     assert_eq!(gather(GSV_2.as_bytes(), &mut words, &mut table), WAITS);

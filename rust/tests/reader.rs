@@ -7,7 +7,9 @@ use std::{
     io::{self, BufRead, BufReader, ErrorKind, Read},
 };
 
-use common::{gatherer::Handed, held, logs::generated, worked_log, Random, GSV_1, GSV_2, GSV_3};
+use common::{
+    gatherer::Handed, held, logs::generated, worked_log, Random, GGA, GLL, GSV_1, GSV_2, GSV_3, VTG,
+};
 use proved_nmea::{Answer, Kind, Reader, LONGEST_LINE};
 
 /// The bytes of each line that a reader gives, through a buffer of so many bytes.
@@ -68,7 +70,8 @@ fn each_capacity_gives_the_same() {
 /// A group is given at its last line, and by no line after it.
 #[test]
 fn a_group_is_given_once() {
-    let log = format!("{GSV_1}\n\n{GSV_2}\nx\n{GSV_3}\n\n{GSV_3}\n$GPTXT,i*0A\n");
+    let log =
+        format!("{GSV_1}\n\n{GSV_2}\nx\n{GGA}\n{GSV_3}\n{GLL}\n\n{GSV_3}\n$GPTXT,i*0A\n{VTG}");
     let mut reader = Reader::new(log.as_bytes());
     let mut given = vec![];
     while let Some(line) = reader.next_line().expect("bytes in memory") {
@@ -79,12 +82,16 @@ fn a_group_is_given_once() {
         (Kind::Blank, None),
         (Kind::Gsv, None),
         (Kind::Refused, None),
-        (Kind::Gsv, Some(vec![1, 3, 5])),
+        (Kind::Gga, None),
+        (Kind::Gsv, Some(vec![1, 3, 6])),
+        (Kind::Gll, None),
         (Kind::Blank, None),
         (Kind::Gsv, None),
         (Kind::Other, None),
+        (Kind::Vtg, None),
     ];
     assert_eq!(given, expected);
+    held(log.as_bytes(), 16);
 }
 
 #[test]

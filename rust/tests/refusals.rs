@@ -104,6 +104,20 @@ fn what_is_no_sign() {
         "GPGSA,A,1,16,@,1,1",
         "GPGSA,A,1,16,1.0,@,1",
         "GPGSA,A,1,16,1.0,1,@",
+        "GPGGA,0000@,,,,,0,,,,,,",
+        "GPGGA,,00@,N,0000,E,0,,,,,,",
+        "GPGGA,,000,N,000@,E,0,,,,,,",
+        "GPGGA,,,,,,0,,@,,,,",
+        "GPGGA,,,,,,0,,,@,,,",
+        "GPGGA,,,,,,0,,,,,@,",
+        "GPGLL,00@,N,0000,E,,A,",
+        "GPGLL,000,N,000@,E,,A,",
+        "GPGLL,,,,,0000@,A,",
+        "GPVTG,@,,,,,,",
+        "GPVTG,,,@,,,,",
+        "GPVTG,,,,,@,,",
+        "GPVTG,,,,,,@,",
+        "GPVTG,,,,,,N@,",
     ];
     for place in places {
         for text in [
@@ -112,6 +126,128 @@ fn what_is_no_sign() {
             let line = with_checksum(&place.replace('@', text));
             assert_eq!(refused(line.as_bytes()), Refusal::Number, "{line}");
         }
+    }
+}
+
+/// Every comma stands, the one behind the geoid too, and the checks run left to right.
+#[test]
+fn gga() {
+    let of = |rest: &str| refused(with_checksum(&format!("GPGGA,{rest}")).as_bytes());
+    for rest in [
+        "",
+        ",,,,,0,,,,,",
+        ",,,,0,,,,,,",
+        ",,,,,,,,,,,",
+        ",,,,,9,,,,,,",
+        ",,,,,A,,,,,,",
+        ",,,,,11,,,,,,",
+        ",,,,,0,4294967296,,,,,",
+        ",,,,,0,+8,,,,,",
+        ",,,,,0,-8,,,,,",
+        ",,,,,0,8.0,,,,,",
+        ",,,,,0,,,,m,,",
+        ",,,,,0,,,,MM,,",
+        ",,,,,0,,,,M,1",
+        "240000,,,,,0,,,,,,",
+        "0000-1,,,,,0,,,,,,",
+        ",000,E,0000,N,0,,,,,,",
+        ",000,N,2560,E,0,,,,,,",
+        // What comes first decides: the fix, the count and the letter stand before these decimals.
+        ",,,,,9,,x,,,,",
+        ",,,,,0,x,x,,,,",
+        ",,,,,0,,,,X,x,",
+    ] {
+        assert_eq!(of(rest), Refusal::Syntax, "{rest}");
+    }
+    for rest in [
+        "0000x,,,,,9,,,,,,",
+        ",00x,N,0000,E,9,,,,,,",
+        ",,,,,0,,x,,X,,",
+        ",,,,,0,,1e5,,,,",
+        ",,,,,0,,,12345678,,,",
+        ",,,,,0,,,1.,X,,",
+        ",,,,,0,,,,,.5,",
+        ",,,,,0,,,,,x",
+        ",,,,,0,,,,M,M,",
+    ] {
+        assert_eq!(of(rest), Refusal::Number, "{rest}");
+    }
+}
+
+/// The comma behind the status stands, and behind it a mode or nothing.
+#[test]
+fn gll() {
+    let of = |rest: &str| refused(with_checksum(&format!("GPGLL,{rest}")).as_bytes());
+    for rest in [
+        "",
+        ",,,,,A",
+        ",,,,,A,,",
+        ",,,,,A,X",
+        ",,,,,A,a",
+        ",,,,,A,V",
+        ",,,,,D,",
+        ",,,,,,A",
+        ",,,,,AA,",
+        ",,,,A,",
+        ",,,,,a,",
+        ",,,,240000,A,",
+        ",,,,0000-1,A,",
+        ",,,,000000",
+        "000,E,0000,N,,A,",
+        "000,N,2560,E,,A,",
+    ] {
+        assert_eq!(of(rest), Refusal::Syntax, "{rest}");
+    }
+    for rest in [
+        ",,,,0000x",
+        ",,,,0000x,X,",
+        "00x,N,0000,E,,X,",
+        "000,N,0001e5,E,,X,",
+    ] {
+        assert_eq!(of(rest), Refusal::Number, "{rest}");
+    }
+}
+
+/// Each decimal is checked, also the magnetic course, which is not kept, and kilometres per hour behind knots.
+#[test]
+fn vtg() {
+    let of = |rest: &str| refused(with_checksum(&format!("GPVTG,{rest}")).as_bytes());
+    for rest in [
+        "",
+        ",,,,,",
+        ",,,,,N",
+        ",t,,,,,",
+        ",TT,,,,,",
+        ",M,,,,,",
+        ",,,m,,,",
+        ",,,T,,,",
+        ",X,x,,,,",
+        ",,,X,x,,",
+        "1,T,1,M,1,N1",
+    ] {
+        assert_eq!(of(rest), Refusal::Syntax, "{rest}");
+    }
+    assert_eq!(refused(b"$GPVTG,,,1e5,,,,*1F"), Refusal::Number);
+    for rest in [
+        "x,X,,,,,",
+        "12345678,,,,,,",
+        "T,,,,,,",
+        ",,1e5,X,,,",
+        ",,M,,,,",
+        ",,,,N,,",
+        ",,,,x,,",
+        ",,,,,K,",
+        ",,,,,NK,",
+        ",,,,,NN,",
+        ",,,,,1N,",
+        ",,,,,N1K,",
+        ",,,,,n,",
+        ",,,,1,K,",
+        ",,,,1,Nx,",
+        ",,,,1,12345678,",
+        ",,,,,x",
+    ] {
+        assert_eq!(of(rest), Refusal::Number, "{rest}");
     }
 }
 
@@ -182,6 +318,10 @@ fn any_bytes() {
         "GPGSA,A,3,,,,,,16,18,,22,24,,,3.6,2.1,2.2,1",
         "GPGSV,3,3,11,22,42,067,42,24,14,311,43,27,05,244,00",
         "GPTXT,01,01,02",
+        "GPGGA,123519,4807.038,N,01131.324,E,1,08,0.9,545.4,M,46.9,M,,",
+        "GPGLL,5107.0013414,N,11402.3279144,W,205412.00,A,A",
+        "GPVTG,360.0,T,348.7,M,000.0,N,000.0,K",
+        "GPVTG,,T,,M,,N10.2,K",
     ];
     let mut accepted = 0;
     for _ in 0..100_000 {
@@ -195,7 +335,7 @@ fn any_bytes() {
                 let mut body = random.pick(&bodies).as_bytes().to_vec();
                 for _ in 0..random.below(3) {
                     let at = random.below(body.len());
-                    body[at] = random.pick(b",,.0123456789+-AVNSEWX");
+                    body[at] = random.pick(b",,.0123456789+-AVNSEWXMTK");
                 }
                 with_checksum(&String::from_utf8(body).unwrap()).into_bytes()
             }

@@ -16,7 +16,7 @@ use common::{
     json::{parsed, Json},
     log_of,
     logs::{damaged, generated},
-    with_checksum, worked_log, Random, GSV_1, GSV_2, GSV_3, WORKED_TOTALS,
+    with_checksum, worked_log, Random, GGA, GLL, GSV_1, GSV_2, GSV_3, VTG, WORKED_TOTALS,
 };
 use proved_nmea::{walk, Totals};
 
@@ -453,6 +453,23 @@ fn a_summary() {
     assert_eq!((ran.error.as_str(), ran.status), ("", Some(0)));
 }
 
+/// The three have their types' counts, and what is wrong with one its refusal.
+#[test]
+fn a_summary_of_gga_gll_and_vtg() {
+    let mut log = format!("{GGA}\n{GLL}\n{VTG}\n{VTG} \n");
+    log += &format!("{}\n", with_checksum("GPGLL,,,,,,A,,"));
+    log += &format!("{}\n", with_checksum("GPVTG,,,,,1,K,"));
+    let ran = run_on(&["--groups", "--summary"], log.as_bytes());
+    let expected = "-:5: refused 4 Syntax\n-:6: refused 9 Number\n\
+                    lines 6 blank 0 accepted 4 refused 2 groups 0\n\
+                    type GGA 1\ntype GLL 1\ntype VTG 2\nrefused 4 Syntax 1\nrefused 9 Number 1\n\
+                    gsv in no group 0\ngroups with fewer entries than in view 0\n\
+                    groups with more entries than in view 0\nbytes after the checksum 1\n\
+                    a sentence after the checksum 0\n";
+    assert_eq!(ran.out, expected);
+    assert_eq!((ran.error.as_str(), ran.status), ("", Some(0)));
+}
+
 /// One over all files, behind their totals.
 #[test]
 fn a_summary_of_several_files() {
@@ -569,6 +586,95 @@ fn objects_of_each_kind() {
             r#","after_checksum":9,"talker":"GP","type":"TXT""#,
         ),
         r#"{"kind":"totals","file":"-","lines":11,"blank":1,"accepted":6,"refused":4,"groups":1}"#
+            .into(),
+    ];
+    assert_eq!(ran.out.lines().collect::<Vec<_>>(), expected);
+    objects(&ran.out);
+}
+
+/// Whole objects of the three: worked, bare, and a speed in km/h.
+#[test]
+fn objects_of_gga_gll_and_vtg() {
+    let mut log = format!("{GGA}\n{GLL}\n{VTG}\n").into_bytes();
+    log.extend(log_of(&[
+        "GNGGA,,,,,,0,,,,,,",
+        "GNGLL,,,,,,V,",
+        "GNVTG,,,,,,,",
+        "GPVTG,-0,T,,M,,N10.20,K",
+        "GPVTG,,,,,,-0,",
+        "GPGGA,,,,,,8,4294967295,-0,-4.50,M,-0.0,M",
+    ]));
+    let ran = run_on(&["--json"], &log);
+    assert_eq!((ran.error.as_str(), ran.status), ("", Some(0)));
+    let line = |kind: &str, line: u64, talker: &str, rest: &str| {
+        let head = format!(r#""kind":"{kind}","file":"-","line":{line},"after_checksum":0"#);
+        format!(r#"{{{head},"talker":"{talker}",{rest}}}"#)
+    };
+    let gga = format!(
+        concat!(
+            r#""time":"12:35:19.000000000","#,
+            r#""latitude":{{"billionths":2887038000000,"hemisphere":"N","degrees":48.1173}},"#,
+            r#""longitude":{{"billionths":691324000000,"hemisphere":"E","degrees":11.522066666666667}},"#,
+            r#""fix":"1","satellites":8,"hdop":{},"altitude":{},"geoid_separation":{}"#,
+        ),
+        decimal("0.9", 9, 1, "0.9"),
+        decimal("545.4", 5454, 1, "545.4"),
+        decimal("46.9", 469, 1, "46.9")
+    );
+    let gll = concat!(
+        r#""time":"20:54:12.000000000","status":"A","#,
+        r#""latitude":{"billionths":3067001341400,"hemisphere":"N","degrees":51.116689023333336},"#,
+        r#""longitude":{"billionths":-6842327914400,"hemisphere":"W","degrees":-114.03879857333334},"#,
+        r#""mode":"A""#,
+    );
+    let speed = |decimal: String, unit: char, knots: &str| {
+        let decimal = decimal.trim_end_matches('}');
+        format!(r#""speed":{decimal},"unit":"{unit}","knots":{knots}}}"#)
+    };
+    let vtg = format!(
+        r#"{},"course":{}"#,
+        speed(decimal("0.0", 0, 1, "0.0"), 'N', "0.0"),
+        decimal("360.0", 3600, 1, "360.0")
+    );
+    let kilometres = format!(
+        r#"{},"course":{}"#,
+        speed(decimal("10.20", 1020, 2, "10.2"), 'K', "5.5075593"),
+        decimal("-0", 0, 0, "-0.0")
+    );
+    let minus = speed(decimal("-0", 0, 0, "-0.0"), 'K', "-0.0") + r#","course":null"#;
+    let signs = format!(
+        concat!(
+            r#""time":null,"latitude":null,"longitude":null,"fix":"8","satellites":4294967295,"#,
+            r#""hdop":{},"altitude":{},"geoid_separation":{}"#,
+        ),
+        decimal("-0", 0, 0, "-0.0"),
+        decimal("-4.50", -450, 2, "-4.5"),
+        decimal("-0.0", 0, 1, "-0.0")
+    );
+    let expected = [
+        line("gga", 1, "GP", &gga),
+        line("gll", 2, "GP", gll),
+        line("vtg", 3, "GP", &vtg),
+        line(
+            "gga",
+            4,
+            "GN",
+            concat!(
+                r#""time":null,"latitude":null,"longitude":null,"fix":"0","satellites":null,"#,
+                r#""hdop":null,"altitude":null,"geoid_separation":null"#,
+            ),
+        ),
+        line(
+            "gll",
+            5,
+            "GN",
+            r#""time":null,"status":"V","latitude":null,"longitude":null,"mode":null"#,
+        ),
+        line("vtg", 6, "GN", r#""speed":null,"course":null"#),
+        line("vtg", 7, "GP", &kilometres),
+        line("vtg", 8, "GP", &minus),
+        line("gga", 9, "GP", &signs),
+        r#"{"kind":"totals","file":"-","lines":9,"blank":0,"accepted":9,"refused":0,"groups":0}"#
             .into(),
     ];
     assert_eq!(ran.out.lines().collect::<Vec<_>>(), expected);

@@ -5,10 +5,13 @@ mod common;
 
 use std::collections::HashSet;
 
-use common::{gsa, gsv, letters, rmc, with_checksum, GSV_1, GSV_2, GSV_3};
+use common::{
+    gga, gll, gsa, gsv, letters, rmc, vtg, with_checksum, GGA, GLL, GSV_1, GSV_2, GSV_3, VTG,
+};
 use proved_nmea::{
-    read, Coordinate, Date, Decimal, Dops, Entry, Fix, Gsa, Gsv, Hemisphere, Letters, Mode,
-    NavigationalStatus, Position, Refusal, Rmc, Selection, Sentence, Status, System, Time,
+    read, Coordinate, DataStatus, Date, Decimal, Dops, Entry, Fix, FixType, Gga, Gll, Gsa, Gsv,
+    Hemisphere, Letters, Mode, NavigationalStatus, Position, Refusal, Rmc, Selection, Sentence,
+    Speed, SpeedUnit, Status, System, Time, Vtg,
 };
 
 const RMC: &str = "$GNRMC,101500.25,A,5130.5,N,00006.0,W,4.5,270.0,290224,,,A*5F";
@@ -91,6 +94,57 @@ fn bare_rmc(talker: &[u8; 2], status: Status) -> Rmc {
     record.mode = None;
     record.navigational_status = None;
     record
+}
+
+/// A GGA record with a talker, a fix and nothing else.
+fn bare_gga(talker: &[u8; 2], fix: FixType) -> Gga {
+    let mut record = gga(GGA);
+    record.talker = letters(talker);
+    record.time = None;
+    record.position = None;
+    record.fix = fix;
+    record.satellites = None;
+    record.hdop = None;
+    record.altitude = None;
+    record.geoid_separation = None;
+    record
+}
+
+/// A GLL record with a talker, a status and nothing else.
+fn bare_gll(talker: &[u8; 2], status: DataStatus) -> Gll {
+    let mut record = gll(GLL);
+    record.talker = letters(talker);
+    record.position = None;
+    record.time = None;
+    record.status = status;
+    record.mode = None;
+    record
+}
+
+fn vtg_of(talker: &[u8; 2], course: Option<Decimal>, speed: Option<Speed>) -> Vtg {
+    let mut record = vtg(VTG);
+    record.talker = letters(talker);
+    record.course = course;
+    record.speed = speed;
+    record
+}
+
+/// A speed that is written in knots: its float is the decimal's.
+fn knots(written: Decimal) -> Option<Speed> {
+    Some(Speed {
+        written,
+        unit: SpeedUnit::Knots,
+        knots: written.value,
+    })
+}
+
+/// A speed that is written in km/h: its float is the decimal's, divided once.
+fn kilometres(written: Decimal) -> Option<Speed> {
+    Some(Speed {
+        written,
+        unit: SpeedUnit::KilometresPerHour,
+        knots: written.value / 1.852,
+    })
 }
 
 fn gsa_of(
@@ -203,6 +257,55 @@ fn rmc_worked() {
 }
 
 #[test]
+fn gga_worked() {
+    let mut expected = bare_gga(b"GP", FixType::Gps);
+    expected.time = Some(Time {
+        hour: 12,
+        minute: 35,
+        second: 19,
+        nanosecond: 0,
+    });
+    expected.position = Some(Position {
+        latitude: coordinate(2_887_038_000_000, 48, Hemisphere::North),
+        longitude: coordinate(691_324_000_000, 11, Hemisphere::East),
+    });
+    expected.satellites = Some(8);
+    expected.hdop = Some(short(9, 1));
+    expected.altitude = Some(short(5454, 1));
+    expected.geoid_separation = Some(short(469, 1));
+    assert_eq!(gga(GGA), expected);
+    let line = "$GPGGA,123519,4807.038,N,01131.324,E,1,08,0.9,545.4,M,46.9,M,,*42";
+    assert_eq!(gga(line), expected);
+}
+
+#[test]
+fn gll_worked() {
+    let mut expected = bare_gll(b"GP", DataStatus::Valid);
+    expected.position = Some(Position {
+        latitude: coordinate(3_067_001_341_400, 51, Hemisphere::North),
+        longitude: coordinate(-6_842_327_914_400, 114, Hemisphere::West),
+    });
+    expected.time = Some(Time {
+        hour: 20,
+        minute: 54,
+        second: 12,
+        nanosecond: 0,
+    });
+    expected.mode = Some(Mode::Autonomous);
+    assert_eq!(gll(GLL), expected);
+}
+
+/// Both speeds are there, and the knots are kept.
+#[test]
+fn vtg_worked() {
+    let expected = vtg_of(b"GP", Some(short(3600, 1)), knots(short(0, 1)));
+    assert_eq!(vtg(VTG), expected);
+    let line = with_checksum("GPVTG,054.7,T,034.4,M,005.5,N,010.2,K");
+    let expected = vtg_of(b"GP", Some(short(547, 1)), knots(short(55, 1)));
+    assert_eq!(vtg(&line), expected);
+}
+
+#[test]
 fn records_as_text() {
     let record = rmc(RMC);
     assert_eq!(record.time.unwrap().to_string(), "10:15:00.250000000");
@@ -229,13 +332,29 @@ fn records_as_text() {
 fn records_for_debugging() {
     let text = |body: &str| format!("{:?}", read(with_checksum(body).as_bytes()));
     assert_eq!(
-        text("GPGGA,"),
-        "Ok(Other(Other { talker: GP, type_name: GGA }))"
+        text("GPGNS,"),
+        "Ok(Other(Other { talker: GP, type_name: GNS }))"
     );
     assert_eq!(text("IDGSV,"), "Err(UnknownTalker(ID))");
     assert_eq!(text(" \tGSV,"), "Err(UnknownTalker(\" \\t\"))");
     let list = text("GPGSV,1,1,00,");
     assert!(list.contains("talker: GP, system: Gps"), "{list}");
+    assert_eq!(
+        text("GPGGA,,,,,,4,,,,,,"),
+        "Ok(Gga(Gga { talker: GP, time: None, position: None, fix: Rtk, satellites: None, \
+         hdop: None, altitude: None, geoid_separation: None }))"
+    );
+    assert_eq!(
+        text("GNGLL,,,,,,V,N"),
+        "Ok(Gll(Gll { talker: GN, position: None, time: None, status: NotValid, \
+         mode: Some(NotValid) }))"
+    );
+    assert_eq!(
+        text("GPVTG,,,,,,1.852,"),
+        "Ok(Vtg(Vtg { talker: GP, course: None, speed: Some(Speed { \
+         written: Decimal { whole: 1852, decimals: 3, value: 1.852 }, \
+         unit: KilometresPerHour, knots: 1.0 }) }))"
+    );
 }
 
 #[test]
@@ -245,12 +364,23 @@ fn names_as_text() {
     assert!(talker == "GP" && talker != "GL" && talker == *"GP");
     assert_eq!(letters(b"\0\x7F").as_str(), "\0\x7F");
     assert_eq!(Letters::new([b'G', 128]), None);
-    let lines = [RMC, "$GPGSA,A,1,,,,*32", GSV_1, "$GPTXT,i*0A"];
+    let lines = [
+        RMC,
+        "$GPGSA,A,1,,,,*32",
+        GSV_1,
+        "$GPTXT,i*0A",
+        GGA,
+        GLL,
+        VTG,
+    ];
     let names = lines.map(|line| {
         let sentence = read(line.as_bytes()).expect("accepted");
         format!("{} {}", sentence.talker(), sentence.type_name())
     });
-    assert_eq!(names, ["GN RMC", "GP GSA", "GP GSV", "GP TXT"]);
+    let expected = [
+        "GN RMC", "GP GSA", "GP GSV", "GP TXT", "GP GGA", "GP GLL", "GP VTG",
+    ];
+    assert_eq!(names, expected);
 }
 
 /// The whole number and the power of ten are exact, so that one division rounds once.
@@ -534,11 +664,193 @@ fn letters_of_rmc() {
     }
 }
 
+/// All but the fix may be absent; both letters `M` may, and what stands behind the geoid's comma is ignored.
+#[test]
+fn gga_without_its_parts() {
+    let bare = bare_gga(b"GN", FixType::Invalid);
+    for rest in [
+        "0,,,,,,",
+        "0,,,,M,,",
+        "0,,,,,,M",
+        "0,,,,M,,M,,",
+        "0,,,,,,MM",
+        "0,,,,,,x,1e5",
+    ] {
+        assert_eq!(gga(&with_checksum(&format!("GNGGA,,,,,,{rest}"))), bare);
+    }
+    let mut expected = bare_gga(b"GP", FixType::DGps);
+    expected.satellites = Some(4_294_967_295);
+    let line = with_checksum("GPGGA,,,,,,2,4294967295,,,,,");
+    assert_eq!(gga(&line), expected);
+    // Each decimal by itself.
+    expected.satellites = Some(0);
+    expected.hdop = Some(short(9_999_999, 0));
+    assert_eq!(gga(&with_checksum("GPGGA,,,,,,2,00,9999999,,,,")), expected);
+    expected.hdop = None;
+    expected.altitude = Some(short(-1, 6));
+    assert_eq!(
+        gga(&with_checksum("GPGGA,,,,,,2,0,,-0.000001,,,")),
+        expected
+    );
+    expected.altitude = None;
+    expected.geoid_separation = Some(minus_zero(1));
+    assert_eq!(gga(&with_checksum("GPGGA,,,,,,2,0,,,M,-0.0,M")), expected);
+}
+
+#[test]
+fn letters_of_gga() {
+    let fix = |letter: char| gga(&with_checksum(&format!("GPGGA,,,,,,{letter},,,,,,"))).fix;
+    let table = [
+        ('0', FixType::Invalid, false),
+        ('1', FixType::Gps, true),
+        ('2', FixType::DGps, true),
+        ('3', FixType::Pps, true),
+        ('4', FixType::Rtk, true),
+        ('5', FixType::FloatRtk, true),
+        ('6', FixType::Estimated, false),
+        ('7', FixType::Manual, false),
+        ('8', FixType::Simulation, false),
+    ];
+    for (letter, expected, is_valid) in table {
+        assert_eq!(fix(letter), expected);
+        assert_eq!(
+            (fix(letter).letter(), fix(letter).is_valid()),
+            (letter, is_valid)
+        );
+    }
+}
+
+/// A mode is one of RMC's letters, or the data end where it would stand; the rest is ignored.
+#[test]
+fn letters_of_gll() {
+    let of = |status: char, tail: &str| gll(&with_checksum(&format!("GPGLL,,,,,,{status},{tail}")));
+    assert_eq!(of('V', ""), bare_gll(b"GP", DataStatus::NotValid));
+    assert_eq!(of('A', ""), bare_gll(b"GP", DataStatus::Valid));
+    for letter in "ACDEFMNPRSU".chars() {
+        for rest in ["", ",", "B", ",,x"] {
+            let record = of('A', &format!("{letter}{rest}"));
+            assert_eq!(record.mode.map(Mode::letter), Some(letter));
+            assert_eq!(record.status.letter(), 'A');
+        }
+    }
+    assert_eq!(of('V', "N").status.letter(), 'V');
+}
+
+/// Kilometres per hour are read in N's field alone: behind the N, or in its place.
+#[test]
+fn speeds_of_vtg() {
+    let speed = |tail: &str| {
+        let record = vtg(&with_checksum(&format!("GPVTG,,,,,{tail}")));
+        assert_eq!(record, vtg_of(b"GP", None, record.speed));
+        record.speed
+    };
+    assert_eq!(speed(",,"), None);
+    assert_eq!(speed(",N,"), None);
+    assert_eq!(speed(",N,1,K"), None);
+    assert_eq!(speed(",N,1e5,K"), None);
+    assert_eq!(speed("2.5,,"), knots(short(25, 1)));
+    assert_eq!(speed("2.5,N,"), knots(short(25, 1)));
+    assert_eq!(speed(",N1,"), kilometres(short(1, 0)));
+    assert_eq!(speed(",1,"), kilometres(short(1, 0)));
+    assert_eq!(speed(",1,K"), kilometres(short(1, 0)));
+    assert_eq!(speed(",1,x"), kilometres(short(1, 0)));
+    // Knots are kept where both are there.
+    assert_eq!(speed("2.5,N10.2,K"), knots(short(25, 1)));
+    assert_eq!(speed("2.5,10.2,K"), knots(short(25, 1)));
+    assert_eq!(speed("-0,N10.2,K"), knots(minus_zero(0)));
+    // The kilometres per hour with a sign, and of minus zero too.
+    assert_eq!(speed(",-10.20,"), kilometres(short(-1020, 2)));
+    let minus = speed(",N-0,").expect("a speed");
+    assert_eq!(minus.written, minus_zero(0));
+    assert_eq!(minus.knots.to_bits(), 0x8000_0000);
+    assert_ne!(Some(minus), speed(",N0,"));
+    assert_ne!(Some(minus), speed("-0,,"));
+    assert_eq!(vtg("$GPVTG,,,,,,N1,*01").speed, kilometres(short(1, 0)));
+}
+
+/// Both divisions are rounded to 24 bits: the bits were worked out with whole numbers.
+#[test]
+fn kilometres_per_hour_in_knots() {
+    for (text, bits) in [
+        ("1", 0x3F0A_3A9C),
+        ("10.2", 0x40B0_3DED),
+        ("0.1", 0x3D5D_2A93),
+        ("1.852", 0x3F80_0000),
+        ("9999999", 0x4AA4_C81F),
+        ("0", 0),
+    ] {
+        for (sign, sign_bit) in [("", 0), ("-", 0x8000_0000)] {
+            let line = with_checksum(&format!("GPVTG,,,,,,N{sign}{text},"));
+            let speed = vtg(&line).speed.expect("a speed");
+            assert_eq!(speed.knots.to_bits(), bits | sign_bit, "{line}");
+            let value: f32 = text.parse().expect("a float");
+            assert_eq!(speed.written.value.to_bits(), value.to_bits() | sign_bit);
+        }
+    }
+}
+
+#[test]
+fn speeds_as_text() {
+    let speed = |tail: &str| {
+        let record = vtg(&with_checksum(&format!("GPVTG,,,,,{tail}")));
+        record.speed.expect("a speed")
+    };
+    assert_eq!(speed("005.50,N,").to_string(), "5.50 knots");
+    assert_eq!(speed(",N-010.2,").to_string(), "-10.2 km/h");
+    assert_eq!(speed("1,,").unit.letter(), 'N');
+    assert_eq!(speed(",1,").unit.letter(), 'K');
+    let speeds = ["0,,", "-0,,", ",0,", ",-0,", "0.0,,", "0,N1,"].map(speed);
+    assert_eq!(HashSet::from(speeds).len(), 5);
+}
+
+/// The magnetic course is read, and not kept.
+#[test]
+fn courses_of_vtg() {
+    let course = |text: &str| {
+        let record = vtg(&with_checksum(&format!("GPVTG,{text},,,,")));
+        assert_eq!(record.speed, None);
+        record.course
+    };
+    assert_eq!(course(",,,"), None);
+    assert_eq!(course(",T,348.7,M"), None);
+    assert_eq!(course("270,T,,"), Some(short(270, 0)));
+    assert_eq!(course("270.50,,1,"), Some(short(27_050, 2)));
+    assert_eq!(course("-0,T,-0,M"), Some(minus_zero(0)));
+}
+
+/// Time and position are RMC's.
+#[test]
+fn times_and_positions_of_three_sentences() {
+    for time in ["", "000000", "+5+607", "235959.999999999", "101500.25"] {
+        for position in [
+            ",,,",
+            "5130.5,N,00006.0,W",
+            "00-30,N,000-0,W",
+            "000,S,0000,E",
+            "99999.999999999,S,255999.999999999,W",
+        ] {
+            let from = rmc(&with_checksum(&format!("GPRMC,{time},A,{position},,,,,")));
+            let line = with_checksum(&format!("GPGGA,{time},{position},1,,,,,,"));
+            assert_eq!(
+                (gga(&line).time, gga(&line).position),
+                (from.time, from.position)
+            );
+            let line = with_checksum(&format!("GPGLL,{position},{time},A,"));
+            assert_eq!(
+                (gll(&line).time, gll(&line).position),
+                (from.time, from.position)
+            );
+            assert_eq!(from.time.is_none(), time.is_empty());
+            assert_eq!(from.position.is_none(), position == ",,,");
+        }
+    }
+}
+
 #[test]
 fn types_that_are_not_read_are_other() {
-    let others = "AAM ALM APA BOD BWC BWW DBK DBS DPT GBS GGA GLL GNS GST HDT MDA MTW MWV RMZ \
-                  TTM TXT VHW VTG WNC ZDA ZFO ZTG";
-    assert_eq!(others.split_whitespace().count(), 27);
+    let others = "AAM ALM APA BOD BWC BWW DBK DBS DPT GBS GNS GST HDT MDA MTW MWV RMZ TTM TXT \
+                  VHW WNC ZDA ZFO ZTG";
+    assert_eq!(others.split_whitespace().count(), 24);
     for name in others.split_whitespace() {
         match read(with_checksum(&format!("GP{name},")).as_bytes()) {
             Ok(Sentence::Other(found)) => {

@@ -1,6 +1,6 @@
 //! Logs that are made, with what receivers and cables do to them.
 
-use super::{with_checksum, Random};
+use super::{with_checksum, Random, GGA, GLL, VTG};
 
 const TALKERS: [&str; 10] = ["GP", "GL", "GA", "GB", "BD", "GI", "GQ", "PQ", "QZ", "GN"];
 
@@ -23,7 +23,7 @@ pub fn generated(random: &mut Random, length: usize) -> Vec<u8> {
     loop {
         let line = match random.below(8) {
             0 if random.one_in(odd_in) => random.pick(&["", "x", "$GPGSV", "\u{e9}", "\0"]).into(),
-            0 => with_checksum("GPTXT,i"),
+            0 => random.pick(&["$GPTXT,i*0A", GGA, GLL, VTG]).into(),
             _ => {
                 let at = random.below(talkers.len());
                 gsv_line(random, odd_in, talkers[at], &mut sending[at])

@@ -12,7 +12,8 @@ use std::{
 };
 
 use proved_nmea::{
-    read, walk, Answer, Gsa, Gsv, Kind, Letters, Reader, Rmc, Sentence, Tally, Totals,
+    read, walk, Answer, Gga, Gll, Gsa, Gsv, Kind, Letters, Reader, Rmc, Sentence, Tally, Totals,
+    Vtg,
 };
 
 use gatherer::{gathered, Handed};
@@ -21,6 +22,12 @@ use gatherer::{gathered, Handed};
 pub const GSV_1: &str = "$GPGSV,3,1,11,03,03,111,00,04,15,270,00,06,01,010,00,13,06,292,00*74";
 pub const GSV_2: &str = "$GPGSV,3,2,11,14,25,170,00,16,57,208,39,18,67,296,40,19,40,246,00*74";
 pub const GSV_3: &str = "$GPGSV,3,3,11,22,42,067,42,24,14,311,43,27,05,244,00,,,,*4D";
+
+/// A GGA, a GLL and a VTG line: the first and the last from the comments of the crate's `gga.rs` and `vtg.rs`, the
+/// second from the page that its `gll.rs` names.
+pub const GGA: &str = "$GPGGA,123519,4807.038,N,01131.324,E,1,08,0.9,545.4,M,46.9,M, , *42";
+pub const GLL: &str = "$GPGLL,5107.0013414,N,11402.3279144,W,205412.00,A,A*73";
+pub const VTG: &str = "$GPVTG,360.0,T,348.7,M,000.0,N,000.0,K*43";
 
 /// The lines of 01's worked log, and what it has.
 pub const WORKED: [&str; 5] = [GSV_1, GSV_2, GSV_3, "", "$GPGSA,A,1,,,,*33"];
@@ -97,6 +104,9 @@ fn read_all<R: Read>(reader: &mut Reader<BufReader<R>>, log: &[u8]) -> (Totals, 
                     Sentence::Rmc(_) => Kind::Rmc,
                     Sentence::Gsa(_) => Kind::Gsa,
                     Sentence::Gsv(_) => Kind::Gsv,
+                    Sentence::Gga(_) => Kind::Gga,
+                    Sentence::Gll(_) => Kind::Gll,
+                    Sentence::Vtg(_) => Kind::Vtg,
                     _ => Kind::Other,
                 };
                 (Answer::Sentence(sentence), kind)
@@ -131,6 +141,27 @@ pub fn gsa(line: &str) -> Gsa {
 pub fn gsv(line: &str) -> Gsv {
     match read(line.as_bytes()) {
         Ok(Sentence::Gsv(record)) => record,
+        other => panic!("{line} is {other:?}"),
+    }
+}
+
+pub fn gga(line: &str) -> Gga {
+    match read(line.as_bytes()) {
+        Ok(Sentence::Gga(record)) => record,
+        other => panic!("{line} is {other:?}"),
+    }
+}
+
+pub fn gll(line: &str) -> Gll {
+    match read(line.as_bytes()) {
+        Ok(Sentence::Gll(record)) => record,
+        other => panic!("{line} is {other:?}"),
+    }
+}
+
+pub fn vtg(line: &str) -> Vtg {
+    match read(line.as_bytes()) {
+        Ok(Sentence::Vtg(record)) => record,
         other => panic!("{line} is {other:?}"),
     }
 }

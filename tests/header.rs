@@ -75,13 +75,13 @@ const ROW: &str = "crates/gather/src/lent.rt";
 /// Constants that the code has too: the source, how their names in the header
 /// begin, and the rest of each, with the code's own name behind `=` where that
 /// is another.
-const IN_CODE: [(&str, &str, &str); 16] = [
+const IN_CODE: [(&str, &str, &str); 19] = [
     ("crates/capi/src/lib.rt", "NMEA_", "DONE UNDONE"),
     ("crates/words/src/lib.rt", "NMEA_", "WORDS"),
     (
         "crates/words/src/part.rt",
         "NMEA_",
-        "KIND TALKER RMC GSA GSV OTHER REFUSED",
+        "KIND TALKER RMC GSA GSV OTHER REFUSED GGA GLL VTG",
     ),
     (
         "crates/words/src/rmc_words.rt",
@@ -99,6 +99,17 @@ const IN_CODE: [(&str, &str, &str); 16] = [
         "NMEA_ENTRY_",
         "WORDS=ENTRY_WORDS SATELLITE ELEVATION AZIMUTH SIGNAL",
     ),
+    (
+        "crates/words/src/gga_words.rt",
+        "NMEA_GGA_",
+        "TIME POSITION FIX SATELLITES HDOP ALTITUDE GEOID",
+    ),
+    (
+        "crates/words/src/gll_words.rt",
+        "NMEA_GLL_",
+        "POSITION TIME STATUS",
+    ),
+    ("crates/words/src/vtg_words.rt", "NMEA_VTG_", "COURSE SPEED"),
     ("crates/words/src/other.rt", "NMEA_OTHER_", "TYPE"),
     (
         "crates/words/src/refused.rt",
@@ -136,7 +147,7 @@ const PARTS: &str = "crates/words/specs/Part.antt";
 /// part stand in their order; how their names in the header begin; the place
 /// that they are counted from, if that has a name; and the rest of each name,
 /// `-` for a word without one.
-const IN_DEFINITIONS: [(&str, &str, &str, &str, &str); 10] = [
+const IN_DEFINITIONS: [(&str, &str, &str, &str, &str); 13] = [
     (
         PARTS,
         "timeWords (some t) = 1 ∷ t .hour ∷ t .minute ∷ t .second ∷ t .nanosecond ∷ []",
@@ -174,6 +185,20 @@ const IN_DEFINITIONS: [(&str, &str, &str, &str, &str); 10] = [
     ),
     (
         PARTS,
+        "positionWords (some p) = 1 ∷ (coordinateWords (p .lat) ++ coordinateWords (p .lon))",
+        "NMEA_GGA_",
+        "POSITION",
+        "- LATITUDE - - - LONGITUDE - - -",
+    ),
+    (
+        "crates/words/specs/Gll.antt",
+        "fieldWords g = positionWords (g .position) ++ (timeWords (g .time) ++ (g .status ∷ Option·getD (g .mode) 0 ∷ []))",
+        "NMEA_GLL_",
+        "POSITION",
+        "- LATITUDE - - - LONGITUDE - - - - - - - - - MODE",
+    ),
+    (
+        PARTS,
         "dopWords d = signedWords (d .whole) ++ (d .decimals ∷ bits32 (d .value) ∷ [])",
         "NMEA_DOP_",
         "",
@@ -185,6 +210,13 @@ const IN_DEFINITIONS: [(&str, &str, &str, &str, &str); 10] = [
         "NMEA_DECIMAL_",
         "",
         "- SIGN SIZE DECIMALS VALUE",
+    ),
+    (
+        "crates/words/specs/Vtg.antt",
+        "speedWords (some s) = 1 ∷ s .unit ∷ (dopWords (s .written) ++ (bits32 (s .knots) ∷ []))",
+        "NMEA_SPEED_",
+        "",
+        "- UNIT SIGN SIZE DECIMALS VALUE KNOTS",
     ),
     (
         PARTS,

@@ -11,7 +11,8 @@ use Rattle.fields.specs.Date.{Date, date, optDate}
 use Rattle.fields.specs.Position.{Position, LatLon, doLatLon, latLon}
 use Rattle.fields.specs.Variation.{doVariation, variation}
 use Rattle.fields.specs.Place.{timePlace, datePlace, positionPlace, shortPlace}
-use Rattle.fields.specs.Answer.{timeRead, timeHeld, timeAt, dateRead, dateHeld, dateAt, bothAt, positionHeld, positionAt, magneticAt, shortHeld, shortPlaceAt}
+use Rattle.fields.specs.Letter.{letterPlace, unitLetter, unitPlace}
+use Rattle.fields.specs.Answer.{timeRead, timeHeld, timeAt, dateRead, dateHeld, dateAt, bothAt, positionHeld, positionAt, magneticAt, shortHeld, shortPlaceAt, letterHeld}
 use Rattle.fields.specs.declared.time.TimeOfDay.{TimeOfDay}
 use Rattle.fields.specs.declared.time.TimeRead.{TimeRead}
 use Rattle.fields.specs.declared.time.TimeRead.the-variants.{No as NoTime, Is as ATime, Number as TimeNumber, BadTime as TimeBad}
@@ -36,11 +37,17 @@ use Rattle.fields.specs.declared.position.PositionAt.{PositionAt}
 use Rattle.fields.specs.declared.position.PositionAt.the-variants.{No as NoPosition, Is as PositionIs, Number as PositionNumber}
 use Rattle.fields.specs.declared.variation.MagneticAt.{MagneticAt}
 use Rattle.fields.specs.declared.variation.MagneticAt.the-variants.{No as NoMagnetic, Is as AMagnetic, Number as MagneticNumber}
+use Rattle.fields.specs.declared.letter.LetterHeld.{LetterHeld}
+use Rattle.fields.specs.declared.letter.LetterHeld.the-variants.{Absent as NoLetter, Is as ALetter}
 use Rattle.fields.specs.declared.place.ShortHeld.{ShortHeld}
 use Rattle.fields.specs.declared.place.ShortHeld.the-variants.{Absent as NoShort, Is as AShort}
 use Rattle.fields.specs.declared.place.ShortPlace.{ShortPlace}
 use Rattle.fields.specs.declared.place.ShortPlace.the-variants.{No as NoShortPlace, Is as ShortIs, Number as ShortNumber}
+use Rattle.text.specs.Answer.{next, lettered}
+use Rattle.text.specs.declared.Next.{Next}
+use Rattle.text.specs.declared.Letter.{Letter}
 use Rattle.only.proofs.Laws.{undone, reads}
+use Rattle.only.proofs.Text.{place-of, next-is, letter-of, letter-is}
 use Rattle.only.proofs.Decimal.{short-of}
 
 abbrev pub time-of : Time → TimeOfDay
@@ -218,3 +225,27 @@ position-place s at x y = undone positionAt position-at position-at-is (reads x 
 
 pub short-place : (s : List ℕ) (at : ℕ) {r q : ShortPlace} → Reads s at shortPlace (shortPlaceAt r) → Reads s at shortPlace (shortPlaceAt q) → r ≡ q
 short-place s at x y = undone shortPlaceAt short-at short-at-is (reads x y)
+
+pub letter-held : Option ℕ → LetterHeld
+letter-held none = NoLetter
+letter-held (some b) = ALetter b
+
+pub letter-held-is : (r : LetterHeld) → letter-held (letterHeld r) ≡ r
+unfolding letter-held
+letter-held-is NoLetter = refl
+letter-held-is (ALetter b) = refl
+
+pub letter-place : (s : List ℕ) (at : ℕ) (letters : List ℕ) {r q : Letter} → Reads s at (letterPlace letters) (lettered r) → Reads s at (letterPlace letters) (lettered q) → r ≡ q
+letter-place s at letters x y = undone lettered letter-of letter-is (reads x y)
+
+end-of : Placed (Unit {0}) → ℕ
+end-of unread = 0
+end-of (refused f) = 0
+end-of (upto u p) = p
+
+pub unit-letter : (s : List ℕ) (at letter : ℕ) {r q : ℕ} → Reads s at (unitLetter letter) (upto tt r) → Reads s at (unitLetter letter) (upto tt q) → r ≡ q
+unfolding end-of
+unit-letter s at letter x y = undone (λ (p : ℕ). upto tt p) end-of (λ p. refl) (reads x y)
+
+pub unit-place : (s : List ℕ) (at letter : ℕ) {r q : Next} → Reads s at (unitPlace letter) (next r) → Reads s at (unitPlace letter) (next q) → r ≡ q
+unit-place s at letter x y = undone next place-of next-is (reads x y)

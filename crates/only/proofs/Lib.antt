@@ -8,6 +8,9 @@ pub mod Held
 pub mod Gsv
 pub mod Gsa
 pub mod Rmc
+pub mod Gga
+pub mod Gll
+pub mod Vtg
 pub mod Sentence
 pub mod Words
 pub mod Gather

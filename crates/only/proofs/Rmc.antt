@@ -2,14 +2,11 @@
 use Prim.Native.Nat.{ℕ}
 use mathlib.Core.Path.{_≡_, refl, ap}
 use mathlib.Core.List.{List}
-use mathlib.Core.Option.{Option, none, some}
 use Rattle.text.specs.Reader.{UnknownType, Number, BadTime}
 use Rattle.text.specs.Value.{Value, syntax, fault, is, value}
 use Rattle.rmc.specs.Rmc.{Rmc, rmc}
 use Rattle.rmc.specs.Rmc as Spec
-use Rattle.rmc.specs.Answer.{letterHeld, fixOf, motionOf, endingOf, rmcData, rmcRead}
-use Rattle.rmc.specs.declared.LetterHeld.{LetterHeld}
-use Rattle.rmc.specs.declared.LetterHeld.the-variants.{Absent as NoLetter, Is as ALetter}
+use Rattle.rmc.specs.Answer.{fixOf, motionOf, endingOf, rmcData, rmcRead}
 use Rattle.rmc.specs.declared.Fix.{Fix}
 use Rattle.rmc.specs.declared.Motion.{Motion}
 use Rattle.rmc.specs.declared.Ending.{Ending}
@@ -17,16 +14,7 @@ use Rattle.rmc.specs.declared.RmcData.{RmcData}
 use Rattle.rmc.specs.declared.RmcRead.{RmcRead}
 use Rattle.rmc.specs.declared.RmcRead.the-variants.{Syntax, Is as ARmc, Number as RmcNumber, BadTime as RmcBad}
 use Rattle.only.proofs.Laws.{same, undone}
-use Rattle.only.proofs.Fields.{time-held, time-held-is, date-held, date-held-is, position-held, position-held-is, short-held, short-held-is}
-
-letter-held : Option ℕ → LetterHeld
-letter-held none = NoLetter
-letter-held (some b) = ALetter b
-
-letter-held-is : (r : LetterHeld) → letter-held (letterHeld r) ≡ r
-unfolding letter-held
-letter-held-is NoLetter = refl
-letter-held-is (ALetter b) = refl
+use Rattle.only.proofs.Fields.{time-held, time-held-is, date-held, date-held-is, position-held, position-held-is, short-held, short-held-is, letter-held, letter-held-is}
 
 fix-of : Spec.Fix → Fix
 fix-of f = record { time = time-held (f .time); status = f .status; position = position-held (f .position) }

@@ -30,12 +30,12 @@ unfolding whole-of
 whole-is No = refl
 whole-is (Is v p) = refl
 
-letter-of : Placed ℕ → Letter
+pub letter-of : Placed ℕ → Letter
 letter-of unread = NoLetter
 letter-of (refused f) = NoLetter
 letter-of (upto b p) = ALetter b p
 
-letter-is : (r : Letter) → letter-of (lettered r) ≡ r
+pub letter-is : (r : Letter) → letter-of (lettered r) ≡ r
 unfolding letter-of
 letter-is NoLetter = refl
 letter-is (ALetter b p) = refl
@@ -46,7 +46,7 @@ place-of unread = Stop
 place-of (refused f) = Stop
 place-of (upto a p) = At p
 
-next-is : (r : Next) → place-of (next r) ≡ r
+pub next-is : (r : Next) → place-of (next r) ≡ r
 unfolding place-of
 next-is Stop = refl
 next-is (At p) = refl

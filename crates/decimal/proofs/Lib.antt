@@ -13,3 +13,4 @@ pub mod Nearest
 pub mod Number
 pub mod Signs
 pub mod Negation
+pub mod Quotient

@@ -189,7 +189,7 @@ below-times : (x y c : ℕ) → x < y → 0 < c → x < y * c
 below-times x y c h C = lt-of-lt-of-le h (le-trans (le-of-eq (sym (mul-one y))) (mul-le-mul-left y C))
 
 -- a decimal within the limits, where all its digits write less than 2 ^ e
-decimal-nearest : (f : Format) (lim : Limits) (d : Decimal) (e : ℕ) → Bounded lim d → 10 ^ lim .all ≤ 2 ^ e → e ≤ emax f → Nearest f (d .minus) (floatOf f d) (d .size) (10 ^ d .decimals)
+pub decimal-nearest : (f : Format) (lim : Limits) (d : Decimal) (e : ℕ) → Bounded lim d → 10 ^ lim .all ≤ 2 ^ e → e ≤ emax f → Nearest f (d .minus) (floatOf f d) (d .size) (10 ^ d .decimals)
 decimal-nearest f lim d e b h E =
     let c = 10 ^ d .decimals in
     round-nearest f (d .minus) (d .size) c e (ten-pos (d .decimals)) (below-times (d .size) (2 ^ e) c (lt-of-lt-of-le (b .small) h) (ten-pos (d .decimals))) E

@@ -83,15 +83,15 @@ fn words_of_gga_gll_and_vtg() {
 
     let north = [
         0,
-        3_067_001_341_400,
+        3_090_500_000_000,
         b'N'.into(),
-        51.116689023333336f64.to_bits(),
+        51.50833333333333f64.to_bits(),
     ];
     let west = [
         1,
-        6_842_327_914_400,
+        6_000_000_000,
         b'W'.into(),
-        (-114.03879857333334f64).to_bits(),
+        (-0.1f64).to_bits(),
     ];
     let gll = expected(
         7,
@@ -100,7 +100,7 @@ fn words_of_gga_gll_and_vtg() {
             &[1],
             &north,
             &west,
-            &[1, 20, 54, 12, 0],
+            &[1, 10, 15, 0, 250_000_000],
             &letter(b'A'),
             &letter(b'A'),
         ],

@@ -622,9 +622,9 @@ fn objects_of_gga_gll_and_vtg() {
         decimal("46.9", 469, 1, "46.9")
     );
     let gll = concat!(
-        r#""time":"20:54:12.000000000","status":"A","#,
-        r#""latitude":{"billionths":3067001341400,"hemisphere":"N","degrees":51.116689023333336},"#,
-        r#""longitude":{"billionths":-6842327914400,"hemisphere":"W","degrees":-114.03879857333334},"#,
+        r#""time":"10:15:00.250000000","status":"A","#,
+        r#""latitude":{"billionths":3090500000000,"hemisphere":"N","degrees":51.50833333333333},"#,
+        r#""longitude":{"billionths":-6000000000,"hemisphere":"W","degrees":-0.1},"#,
         r#""mode":"A""#,
     );
     let speed = |decimal: String, unit: char, knots: &str| {

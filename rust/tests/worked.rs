@@ -282,14 +282,14 @@ fn gga_worked() {
 fn gll_worked() {
     let mut expected = bare_gll(b"GP", DataStatus::Valid);
     expected.position = Some(Position {
-        latitude: coordinate(3_067_001_341_400, 51, Hemisphere::North),
-        longitude: coordinate(-6_842_327_914_400, 114, Hemisphere::West),
+        latitude: coordinate(3_090_500_000_000, 51, Hemisphere::North),
+        longitude: coordinate(-6_000_000_000, 0, Hemisphere::West),
     });
     expected.time = Some(Time {
-        hour: 20,
-        minute: 54,
-        second: 12,
-        nanosecond: 0,
+        hour: 10,
+        minute: 15,
+        second: 0,
+        nanosecond: 250_000_000,
     });
     expected.mode = Some(Mode::Autonomous);
     assert_eq!(gll(GLL), expected);

@@ -1,13 +1,23 @@
 use crate::{with_checksum, KNOWN_TYPES};
 
 /// The sentences of document 01, as they stand there.
-const WORKED: [&str; 6] = [
+const WORKED: [&str; 16] = [
     "$GPGSV,3,1,11,03,03,111,00,04,15,270,00,06,01,010,00,13,06,292,00*74",
     "$GPGSV,3,3,11,22,42,067,42,24,14,311,43,27,05,244,00,,,,*4D",
     "$GPGSA,A,3,,,,,,16,18,,22,24,,,3.6,2.1,2.2*3C",
     "$GPGSA,A,1,,,,*32",
     "$GPGSA,A,1,,,,*33",
     "$GNRMC,101500.25,A,5130.5,N,00006.0,W,4.5,270.0,290224,,,A*5F",
+    "$GPGGA,123519,4807.038,N,01131.324,E,1,08,0.9,545.4,M,46.9,M, , *42",
+    "$GPGGA,,,,,,0,,,,,*4A",
+    "$GPGLL,5130.5,N,00006.0,W,101500.25,A,A*7D",
+    "$GPGLL,,,,,,A,AB*3E",
+    "$GPGLL,,,,,,A,,*11",
+    "$GPVTG,360.0,T,348.7,M,000.0,N,000.0,K*43",
+    "$GPVTG,054.7,T,034.4,M,005.5,N,010.2,K*48",
+    "$GPVTG,t,T,,,s.ss,N,s.ss,K*77",
+    "$GPVTG,,,,,,N1,*01",
+    "$GPVTG,,,1e5,,,,*1F",
 ];
 
 /// The further sentences in the comments of the crate's gsv.rs, gsa.rs, rmc.rs,

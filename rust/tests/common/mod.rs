@@ -23,10 +23,9 @@ pub const GSV_1: &str = "$GPGSV,3,1,11,03,03,111,00,04,15,270,00,06,01,010,00,13
 pub const GSV_2: &str = "$GPGSV,3,2,11,14,25,170,00,16,57,208,39,18,67,296,40,19,40,246,00*74";
 pub const GSV_3: &str = "$GPGSV,3,3,11,22,42,067,42,24,14,311,43,27,05,244,00,,,,*4D";
 
-/// A GGA, a GLL and a VTG line: the first and the last from the comments of the crate's `gga.rs` and `vtg.rs`, the
-/// second from the page that its `gll.rs` names.
+/// A GGA, a GLL and a VTG line, from 01's worked sentences.
 pub const GGA: &str = "$GPGGA,123519,4807.038,N,01131.324,E,1,08,0.9,545.4,M,46.9,M, , *42";
-pub const GLL: &str = "$GPGLL,5107.0013414,N,11402.3279144,W,205412.00,A,A*73";
+pub const GLL: &str = "$GPGLL,5130.5,N,00006.0,W,101500.25,A,A*7D";
 pub const VTG: &str = "$GPVTG,360.0,T,348.7,M,000.0,N,000.0,K*43";
 
 /// The lines of 01's worked log, and what it has.

@@ -48,11 +48,23 @@ fn tens(k: u32) -> u64
     10 * tens(k - 1)
 }
 
-// Ten to the power `k`, up to the ninth, which stands for any above.
+// Ten to the power `k`, up to the ninth, which stands for any above. The recursion is asked for constants: the compiler makes a
+// table of what it answers.
 pub fn pow10(k: u32) -> u64
     ensures { λ r. ⌜ r ≡ 10 ^ min k 9 ⌝ }
 {
-    tens(least(k, DECIMALS))
+    match k {
+        0 => tens(0),
+        1 => tens(1),
+        2 => tens(2),
+        3 => tens(3),
+        4 => tens(4),
+        5 => tens(5),
+        6 => tens(6),
+        7 => tens(7),
+        8 => tens(8),
+        _ => tens(DECIMALS),
+    }
 }
 
 // A run of digits: the number it writes, its count of digits, the next place; or more digits than allowed.
@@ -172,7 +184,8 @@ fn nearest_f32(minus: bool, size: u32, k: u32) -> f32
     requires { ⌜ (size < 10000000) × (k ≤ 6) ⌝ }
     ensures { λ r. ⌜ r ≡ round binary32 minus size (10 ^ k) ⌝ }
 {
-    let quotient = (size as f32) / (pow10(k) as f32);
+    let power = pow10(k) as u32;
+    let quotient = (size as f32) / (power as f32);
     if minus { -quotient } else { quotient }
 }
 
@@ -235,7 +248,7 @@ fn nearest_f64(minus: bool, billionths: u64) -> f64
     requires { ⌜ billionths < 1000000000000 ⌝ }
     ensures { λ r. ⌜ r ≡ round binary64 minus billionths (10 ^ 9) ⌝ }
 {
-    let value = (billionths as f64) / (BILLION as f64);
+    let value = ((billionths as i64) as f64) / (BILLION as f64);
     if minus { -value } else { value }
 }
 

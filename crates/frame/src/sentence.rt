@@ -1,6 +1,7 @@
 // A framed sentence, by value: its data is a range of the line that it was read from.
 use crate::refusal::Kind;
 use crate::refusal::Talker;
+ghost use mathlib.Core.Bool.{true};
 ghost use mathlib.Core.Path.{_≡_};
 ghost use Rattle.frame.specs.Types.{types, alike, listed};
 ghost use Rattle.frame.specs.Answer.{letters, dataOf};
@@ -122,17 +123,33 @@ fn beginning(a: u8) -> Range
     }
 }
 
-// Whether a type is one of the thirty. The three whose data are read are tried first, then those that begin with its letter.
+// Whether a type is one of the six whose data are read, by its first letters: most lines are of these.
+fn is_read(kind: Kind) -> bool
+    ensures { λ r. ⌜ (r ≡ true → listed types (letters kind) ≡ true) ⌝ }
+{
+    if kind.0 == b'G' {
+        if kind.1 == b'S' {
+            if same(kind, *b"GSV") {
+                return true;
+            }
+            return same(kind, *b"GSA");
+        }
+        if same(kind, *b"GGA") {
+            return true;
+        }
+        return same(kind, *b"GLL");
+    }
+    if same(kind, *b"RMC") {
+        return true;
+    }
+    same(kind, *b"VTG")
+}
+
+// Whether a type is one of the thirty. Those whose data are read are tried first, then those that begin with its letter.
 pub fn known(kind: Kind) -> bool
     ensures { λ r. ⌜ r ≡ listed types (letters kind) ⌝ }
 {
-    if same(kind, *b"GSV") {
-        return true;
-    }
-    if same(kind, *b"GSA") {
-        return true;
-    }
-    if same(kind, *b"RMC") {
+    if is_read(kind) {
         return true;
     }
     let types = Sentence::TYPES;

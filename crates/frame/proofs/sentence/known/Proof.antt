@@ -3,13 +3,11 @@
 -- Assumes nothing.
 use Prim.Native.Nat.{_≤_, _-_}
 use mathlib.Core.Path.{_≡_, refl, sym, _∙_}
-use mathlib.Core.Bool.{true}
 use lib.Seq.{slice}
 use borrow.Author.Needs.{needs}
-use Rattle.text.specs.Bytes.{bytes}
-use Rattle.frame.specs.Types.{types, alike, listed}
+use Rattle.frame.specs.Types.{types, listed}
 use Rattle.frame.specs.Answer.{letters}
-use Rattle.frame.proofs.Texts.{found, not-here, nowhere, as-one}
+use Rattle.frame.proofs.Texts.{found, not-here, nowhere}
 use Rattle.frame.proofs.sentence.known.Statement.{statement}
 use Rattle.frame.proofs.sentence.known.Tie as tie
 
@@ -19,49 +17,31 @@ Inv-loop kind table to i₀ i = (to ≤ 30) × (table ≡ types) × (listed type
 abbrev μ-loop : tie.MeasureT-loop
 μ-loop kind table to i₀ i = to - i
 
-known-gsv : listed types (bytes "GSV") ≡ true
-unfolding types listed alike
-known-gsv = refl
-
-known-gsa : listed types (bytes "GSA") ≡ true
-unfolding types listed alike
-known-gsa = refl
-
-known-rmc : listed types (bytes "RMC") ≡ true
-unfolding types listed alike
-known-rmc = refl
-
 returns : tie.Need-returns Inv-loop μ-loop
-returns c = sym (as-one types _ (bytes "GSV") known-gsv (sym (c .before .same .ensures) ∙ c .if1 .taken))
-
-returns-2 : tie.Need-returns-2 Inv-loop μ-loop
-returns-2 c = sym (as-one types _ (bytes "GSA") known-gsa (sym (c .before .same2 .ensures) ∙ c .if2 .taken))
-
-returns-3 : tie.Need-returns-3 Inv-loop μ-loop
-returns-3 c = sym (as-one types _ (bytes "RMC") known-rmc (sym (c .before .same3 .ensures) ∙ c .if3 .taken))
+returns c = sym (c .before .is-read .ensures (c .if1 .taken))
 
 loop-holds : tie.Need-loop-holds Inv-loop μ-loop
 unfolding types
 loop-holds c = let r = c .beginning .ensures in (r .within, refl, r .all _ _)
 
-returns-4 : tie.Need-returns-4 Inv-loop μ-loop
+returns-2 : tie.Need-returns-2 Inv-loop μ-loop
 unfolding types
-returns-4 c =
+returns-2 c =
     let k = c .before .before .before in
     let v = k .before .loop .inv in
-    sym (v .2 ∙ found types _ _ _ _ (k .loop-test .taken) (v .0) (sym (c .before .same4 .ensures) ∙ c .if4 .taken))
+    sym (v .2 ∙ found types _ _ _ _ (k .loop-test .taken) (v .0) (sym (c .before .same .ensures) ∙ c .if2 .taken))
 
 loop-again : tie.Need-loop-again Inv-loop μ-loop
 unfolding types
 loop-again c =
     let k = c .before .before .before in
     let v = k .before .loop .inv in
-    (v .0, refl, v .2 ∙ not-here types _ _ _ _ (k .loop-test .taken) (v .0) (sym (c .before .same4 .ensures) ∙ c .if4 .left))
+    (v .0, refl, v .2 ∙ not-here types _ _ _ _ (k .loop-test .taken) (v .0) (sym (c .before .same .ensures) ∙ c .if2 .left))
 
-returns-5 : tie.Need-returns-5 Inv-loop μ-loop
-returns-5 c = sym (c .before .loop .inv .2 ∙ nowhere types _ _ _ (c .loop-test .left))
+returns-3 : tie.Need-returns-3 Inv-loop μ-loop
+returns-3 c = sym (c .before .loop .inv .2 ∙ nowhere types _ _ _ (c .loop-test .left))
 
 pub known-spec : {M : Type 1} → statement M
 known-spec = tie.close (tie.spec
-    Inv-loop μ-loop (λ c κs. search needs) returns (λ c κs. search needs) returns-2 (λ c κs. search needs) returns-3 (λ c κs. search needs) loop-holds
-    (λ c. search needs) (λ c. search needs) (λ c κs. search needs) returns-4 (λ c. search needs) (λ c. search needs) loop-again returns-5)
+    Inv-loop μ-loop (λ c κs. search needs) returns (λ c κs. search needs) loop-holds (λ c. search needs) (λ c. search needs)
+    (λ c κs. search needs) returns-2 (λ c. search needs) (λ c. search needs) loop-again returns-3)

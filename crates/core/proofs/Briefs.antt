@@ -42,13 +42,13 @@ is-refused (isOther k) e = let z : _≡_ {A = ℕ} 0 1 = cc in absurd (omega ari
 is-refused (isRefused y) {x} e = let z : x ≡ y = cc in ap isRefused z
 
 module _ {a : Answer} {out o t t′ : List ℕ} {r : Code.Taken} (tells : Tells a out o t t′ r) where
-  pub record-whole : {r₀ : Code.Taken} → r ≡ r₀ → NoRefusal (brief r₀) → Takes a out o t t′ r
+  pub record-whole : {r₀ : Code.Taken} → r ≡ r₀ → NoRefusal (brief r₀) → Takes a out o t t′ r₀
   record-whole e n =
       record {
-        says = tells .says;
+        says = sym (ap brief e) ∙ tells .says;
         words = tells .words ∙ is-record out a (subst NoRefusal (sym (ap brief e) ∙ tells .says) n);
         table = tells .table;
-        handed = tells .handed;
+        handed = sym (ap outcomeOf e) ∙ tells .handed;
       }
 
   pub refusal-whole : {o′ : List ℕ} {why : Refusal} → r ≡ taken.Refused why → o′ ≡ into (refusedWords (refused why)) o

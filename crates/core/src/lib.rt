@@ -202,14 +202,16 @@ fn tell(line: &[u8], out: &mut [u64], table: &mut [u32]) -> Taken
 }
 
 // Takes any byte string: its words go into a buffer with room for them, an accepted GSV line into a table of the right length.
+// Each arm makes its answer anew: handed on as it was told, an accepted line's would be put together in memory, a refusal's parts and all.
 pub fn take(line: &[u8], out: &mut [u64], table: &mut [u32]) -> Taken
     ensures { λ r. ⌜ Takes (answer (now (line .entry))) (now (out .entry)) (now (out .exit)) (now (table .entry)) (now (table .exit)) r × (now (line .exit) ≡ now (line .entry)) ⌝ }
 {
-    let taken = tell(line, &mut *out, &mut *table);
-    match taken {
-        Taken::Accepted => {}
-        Taken::Gsv(_, _, _) => {}
-        Taken::Refused(why) => words::put_refused(&mut *out, why),
+    match tell(line, &mut *out, &mut *table) {
+        Taken::Accepted => Taken::Accepted,
+        Taken::Gsv(t, h, o) => Taken::Gsv(t, h, o),
+        Taken::Refused(why) => {
+            words::put_refused(&mut *out, why);
+            Taken::Refused(why)
+        }
     }
-    taken
 }

@@ -48,23 +48,11 @@ fn tens(k: u32) -> u64
     10 * tens(k - 1)
 }
 
-// Ten to the power `k`, up to the ninth, which stands for any above. The recursion is asked for constants: the compiler makes a
-// table of what it answers.
+// Ten to the power `k`, up to the ninth, which stands for any above.
 pub fn pow10(k: u32) -> u64
     ensures { λ r. ⌜ r ≡ 10 ^ min k 9 ⌝ }
 {
-    match k {
-        0 => tens(0),
-        1 => tens(1),
-        2 => tens(2),
-        3 => tens(3),
-        4 => tens(4),
-        5 => tens(5),
-        6 => tens(6),
-        7 => tens(7),
-        8 => tens(8),
-        _ => tens(DECIMALS),
-    }
+    tens(least(k, DECIMALS))
 }
 
 // A run of digits: the number it writes, its count of digits, the next place; or more digits than allowed.

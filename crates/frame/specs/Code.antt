@@ -1,5 +1,5 @@
 -- For the code, not for a reader of the scope: whether a `*` stands in a text, byte by byte, a digit as a number, which of the types
--- begin with a letter, and a line that begins as a sentence does.
+-- begin with a letter, a line that begins as a sentence does, and what the quick way of framing tells.
 use Prim.Native.Nat.{ℕ, _+_, _≤_}
 use mathlib.Core.Path.{_≡_}
 use mathlib.Core.Bool.{true, cond}
@@ -10,8 +10,11 @@ use lib.ListN.{length, getD}
 use lib.Seq.{slice}
 use Rattle.text.specs.Bytes.{byte}
 use Rattle.frame.specs.Types.{types, listed}
-use Rattle.frame.specs.Frame.{maxLength, dataFrom}
+use Rattle.frame.specs.Frame.{maxLength, dataFrom, frame}
+use Rattle.frame.specs.Answer.{framed}
 use Rattle.frame.specs.declared.sentence.Range.{Range}
+use Rattle.frame.specs.declared.parse.Quick.{Quick}
+use Rattle.frame.specs.declared.parse.Quick.the-variants.{Unsure, Is}
 
 -- the flag after one byte more: 1 at a `*`
 unfoldable pub mark : ℕ → ℕ → ℕ
@@ -39,3 +42,8 @@ pub record Headed (s kind : List ℕ) : Type 0 where
   pub dollar : getD s 0 0 ≡ byte "$"
   pub letters : kind ≡ getD s 3 0 ∷ getD s 4 0 ∷ getD s 5 0 ∷ []
   pub known : listed types kind ≡ true
+
+-- what is told is the frame of the line; who is unsure tells nothing
+abbrev pub Sure : List ℕ → Quick → Type 0
+Sure s Unsure = Unit {0}
+Sure s (Is x) = framed s x ≡ frame s

@@ -16,7 +16,7 @@ ghost use lib.Seq.{slice};
 ghost use Rattle.frame.specs.Checksum.{checksum};
 ghost use Rattle.frame.specs.Frame.{taken, sentenceType, sentence, compared, sized, frame, dataIn};
 ghost use Rattle.frame.specs.Answer.{letters, talkerAt, kindAt, read, parts, framed};
-ghost use Rattle.frame.specs.Code.{Headed};
+ghost use Rattle.frame.specs.Code.{Headed, Sure};
 
 // Where the data begin, after `$`, talker, type and comma.
 const DATA: usize = 7;
@@ -155,55 +155,71 @@ fn checked(s: &[u8]) -> Framed
     Framed::Refused(Refusal::BadUtf8)
 }
 
-// The frame of a line that begins with `$` and a known type. Where its checksum ends it, one pass tells the rest.
-fn passed(s: &[u8], kind: Kind) -> Framed
+// What the quick way tells of a line: its frame; or it is unsure, and the line has to be checked.
+enum Quick {
+    Unsure,
+    Is(Framed),
+}
+
+// The quick way of a line that begins with `$` and a known type. Where its checksum ends it, one pass tells the rest.
+fn passed(s: &[u8], kind: Kind) -> Quick
     requires { ⌜ Headed (now s) (letters kind) ⌝ }
-    ensures { λ r. ⌜ (framed (now (s .entry)) r ≡ frame (now (s .entry))) × (now (s .exit) ≡ now (s .entry)) ⌝ }
+    ensures { λ r. ⌜ Sure (now (s .entry)) r × (now (s .exit) ≡ now (s .entry)) ⌝ }
 {
     if s[6] != b',' {
-        return checked(s);
+        return Quick::Unsure;
     }
     let to = s.len() - 3;
     let Digits::Is(found) = checksum_field(s, to) else {
-        return checked(s);
+        return Quick::Unsure;
     };
     let x = one_pass(s, to);
     if x.star != 0 {
-        return checked(s);
+        return Quick::Unsure;
     }
     if 127 < x.top {
-        return checked(s);
+        return Quick::Unsure;
     }
     if x.sum == found {
         let talker = Talker(s[1], s[2]);
-        return Framed::Is(Sentence::new(talker, kind, found, DATA, to));
+        return Quick::Is(Framed::Is(Sentence::new(talker, kind, found, DATA, to)));
     }
-    Framed::Refused(Refusal::Checksum(x.sum, found))
+    Quick::Is(Framed::Refused(Refusal::Checksum(x.sum, found)))
 }
 
-// The frame of any line. One that ends with its checksum is gone through once, and an unknown type is answered at once; whatever does
-// not fit is checked. Behind more tests than these the compiler takes the call of `passed` for a cold one, and does not inline it.
-pub fn parse_nmea_sentence(s: &[u8]) -> Framed
-    ensures { λ r. ⌜ (framed (now (s .entry)) r ≡ frame (now (s .entry))) × (now (s .exit) ≡ now (s .entry)) ⌝ }
+// The quick way: a line that ends with its checksum is gone through once, and an unknown type is answered at once. Behind more tests than
+// these the compiler takes the call of `passed` for a cold one, and does not inline it.
+fn quickly(s: &[u8]) -> Quick
+    ensures { λ r. ⌜ Sure (now (s .entry)) r × (now (s .exit) ≡ now (s .entry)) ⌝ }
 {
     let len = s.len();
     if len < SHORTEST {
-        return checked(s);
+        return Quick::Unsure;
     }
     if Sentence::MAX_LEN < len {
-        return checked(s);
+        return Quick::Unsure;
     }
     if s[0] != b'$' {
-        return checked(s);
+        return Quick::Unsure;
     }
     let kind = Kind(s[3], s[4], s[5]);
     if known(kind) {
         return passed(s, kind);
     }
     if !utf8::is_ascii(s) {
-        return checked(s);
+        return Quick::Unsure;
     }
-    Framed::Refused(Refusal::UnknownType)
+    Quick::Is(Framed::Refused(Refusal::UnknownType))
+}
+
+// The frame of any line. The checks have one call, so that a line which needs none of them goes on without their memory.
+pub fn parse_nmea_sentence(s: &[u8]) -> Framed
+    ensures { λ r. ⌜ (framed (now (s .entry)) r ≡ frame (now (s .entry))) × (now (s .exit) ≡ now (s .entry)) ⌝ }
+{
+    match quickly(s) {
+        Quick::Unsure => checked(s),
+        Quick::Is(x) => x,
+    }
 }
 
 // The data of a line, a part of it; an empty part where the line is refused.

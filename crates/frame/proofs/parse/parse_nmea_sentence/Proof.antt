@@ -1,37 +1,16 @@
--- A line that begins as a sentence does is handed on as such, and one of an unknown type is refused where it is ASCII; any other is
--- checked. Assumes nothing.
-use native.Mathlib.Omega.{arith}
-use mathlib.Core.Path.{refl, sym, _∙_}
+-- What the quick way tells is the frame, and so is what the checks answer. Assumes nothing.
+use mathlib.Core.Path.{refl, subst}
 use denote.Ref.{now}
 use borrow.Author.Needs.{needs}
-use borrow.Author.Tests.{not-false}
-use Rattle.frame.proofs.Quick.{unknown-frame}
+use Rattle.frame.specs.Code.{Sure}
 use Rattle.frame.proofs.parse.parse_nmea_sentence.Statement.{statement}
 use Rattle.frame.proofs.parse.parse_nmea_sentence.Tie as tie
 
-passed-requires : tie.Need-passed-requires
-passed-requires c κs =
-    let dollar = c .before .before .before .before .before in
-    let size = dollar .before .before in
-    record {
-      long = size .before .if1 .left;
-      short = size .if2 .left;
-      dollar = dollar .if3 .left;
-      letters = refl;
-      known = sym (c .before .known .ensures) ∙ c .if4 .taken;
-    }
-
-returns-6 : tie.Need-returns-6
-returns-6 c =
-    let ask = c .before .before in
-    let dollar = ask .before .before .before .before .before in
-    let size = dollar .before .before in
-    let s = now (size .before .before .before .args .s) in
-    let low = sym (c .before .is-ascii .ensures .0) ∙ not-false _ (c .if5 .left) in
-    (sym (unknown-frame s (omega arith) (size .if2 .left) low (dollar .if3 .left) (sym (ask .before .known .ensures) ∙ ask .if4 .left)), refl)
+returns-2 : tie.Need-returns-2
+returns-2 c =
+    let told = c .before .before .before in
+    (subst (Sure (now (told .before .before .args .s))) (c .before .x .given .1) (told .quickly .ensures .0), refl)
 
 pub parse-nmea-sentence-spec : {M : Type 1} → statement M
 parse-nmea-sentence-spec = tie.close (tie.spec
-    (λ c κs. search needs) (λ c. search needs) (λ c κs. search needs) (λ c. search needs) (λ c. search needs) (λ c κs. search needs)
-    (λ c. search needs) (λ c. search needs) (λ c. search needs) (λ c. search needs) (λ c κs. search needs) passed-requires
-    (λ c. search needs) (λ c κs. search needs) (λ c κs. search needs) (λ c. search needs) returns-6)
+    (λ c κs. search needs) (λ c. search needs) (λ c κs. search needs) (λ c. search needs) (λ c. search needs) returns-2)

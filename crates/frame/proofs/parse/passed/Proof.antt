@@ -1,5 +1,5 @@
--- A line that ends with its checksum, has no `*` before that and is ASCII is a sentence, and its checksum decides; any other is checked.
--- Assumes nothing.
+-- A line that ends with its checksum, has no `*` before that and is ASCII is a sentence, and its checksum decides; of any other nothing is
+-- told. Assumes nothing.
 use Prim.Native.Nat.{ℕ, _-_}
 use native.Mathlib.Omega.{arith}
 use mathlib.Core.Path.{_≡_, refl, sym, _∙_}
@@ -63,6 +63,6 @@ returns-6 c =
 
 pub passed-spec : {M : Type 1} → statement M
 passed-spec = tie.close (tie.spec
-    (λ c. search needs) (λ c κs. search needs) (λ c. search needs) (λ c. search needs) (λ c κs. search needs) (λ c. search needs)
-    (λ c. search needs) (λ c κs. search needs) (λ c. search needs) (λ c κs. search needs) (λ c κs. search needs) (λ c. search needs)
-    (λ c κs. search needs) (λ c. search needs) (λ c. search needs) (λ c. search needs) (λ c κs. search needs) returns-5 returns-6)
+    (λ c. search needs) (λ c. search needs) (λ c. search needs) (λ c κs. search needs) (λ c. search needs) (λ c. search needs)
+    (λ c. search needs) (λ c κs. search needs) (λ c. search needs) (λ c. search needs) (λ c. search needs) (λ c. search needs)
+    (λ c κs. search needs) returns-5 returns-6)

@@ -18,7 +18,7 @@ use Rattle.frame.proofs.Texts.{alike-equal, alike-self}
 use Rattle.frame.proofs.Number.{Framed, framed-number}
 use Rattle.gsv.specs.Talker.{Talker}
 use Rattle.gsv.proofs.Never.{never-gsv}
-use Rattle.gsa.specs.System.{Settled, absent, is as settledAs, mismatch, settle}
+use Rattle.gsa.specs.System.{Settled, is as settledAs, mismatch, settle}
 use Rattle.gsa.specs.Gsa.{Gsa}
 use Rattle.gsa.proofs.Number.{gsaPlaces, gsa-number}
 use Rattle.rmc.proofs.Number.{rmcPlaces, rmc-number}
@@ -81,8 +81,7 @@ module _ {A : Type 0} (f : A → Answer) (h : (a : A) → IsNine (f a) → ⊥) 
 
 settled-clear : (t : List ℕ) (g : Gsa) (x : Settled) → IsNine (settledGsa t g x) → ⊥
 unfolding numbered
-settled-clear t g absent e = omega arith
-settled-clear t g (settledAs n) e = omega arith
+settled-clear t g (settledAs s) e = omega arith
 settled-clear t g (mismatch m n) e = omega arith
 
 -- a framed sentence, by its type

@@ -19,7 +19,7 @@ use Rattle.frame.proofs.Number.{Framed, framed-number}
 use Rattle.gsv.specs.Talker.{Talker}
 use Rattle.gsv.specs.Gsv.{gsv}
 use Rattle.gsv.proofs.Never.{never-gsv}
-use Rattle.gsa.specs.System.{Settled, absent, is as settledAs, mismatch, settle}
+use Rattle.gsa.specs.System.{Settled, is as settledAs, mismatch, settle}
 use Rattle.gsa.specs.Gsa.{Gsa, gsa}
 use Rattle.gsa.proofs.Number.{gsa-number}
 use Rattle.rmc.specs.Rmc.{rmc}
@@ -71,8 +71,7 @@ module _ (top : ℕ) (room : 9 ≤ top) where
   of-vtg p = reads (asVtg (p .talker)) (λ d. tt) (vtg (p .text)) (no-bad-time vtg-number (p .text))
 
   settled : (t : List ℕ) (g : Gsa) (s : Settled) → Numbered top (settledGsa t g s)
-  settled t g absent = tt
-  settled t g (settledAs n) = tt
+  settled t g (settledAs s) = tt
   settled t g (mismatch m n) = (omega arith, omega arith)
 
   of-gsa : (p : Parts) → Numbered top (gsaOf p)

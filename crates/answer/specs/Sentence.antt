@@ -10,7 +10,7 @@ use Rattle.frame.specs.Types.{alike}
 use Rattle.frame.specs.Frame.{Parts, Outcome, accepted, refused, frame}
 use Rattle.gsv.specs.Talker.{Talker, talkerOf}
 use Rattle.gsv.specs.Gsv.{Gsv, gsv, GsvSentence}
-use Rattle.gsa.specs.System.{Settled, absent, is as settledAs, mismatch, named, settle}
+use Rattle.gsa.specs.System.{Settled, is as settledAs, mismatch, named, settle}
 use Rattle.gsa.specs.Gsa.{Gsa, gsa}
 use Rattle.rmc.specs.Rmc.{Rmc, rmc}
 use Rattle.gga.specs.Gga.{Gga, gga}
@@ -81,8 +81,7 @@ withSystem g s = record { mode = g .mode; fix = g .fix; satellites = g .satellit
 
 -- "two different ones are 8; an absent one is taken from the talker"
 abbrev pub settledGsa : List ℕ → Gsa → Settled → Answer
-settledGsa t g absent = isGsa (record { talker = t; body = withSystem g none })
-settledGsa t g (settledAs n) = isGsa (record { talker = t; body = withSystem g (some n) })
+settledGsa t g (settledAs s) = isGsa (record { talker = t; body = withSystem g s })
 settledGsa t g (mismatch m n) = isRefused (systemMismatch m n)
 
 -- parse_gsa of a framed sentence: the data first, then the system

@@ -20,7 +20,6 @@ use gga::GgaRead;
 use gll::GllRead;
 use gsa::GsaAnswer;
 use gsa::Settled;
-use gsa::System;
 use gsv::GsvHead;
 use gsv::GsvRecord;
 use gsv::GsvTalker;
@@ -120,13 +119,8 @@ fn take_gsa(line: &[u8], x: Sentence, out: &mut [u64]) -> Taken
         GsaAnswer::Is(head) => {
             let tail = head.system;
             match gsa::settle(talker.0, talker.1, tail) {
-                Settled::Absent => {
-                    let g = gsa::with_system(head, System::Absent);
-                    words::put_gsa(&mut *out, talker, g, satellites, count);
-                    Taken::Accepted
-                }
-                Settled::Is(n) => {
-                    let g = gsa::with_system(head, System::Is(n));
+                Settled::Is(system) => {
+                    let g = gsa::with_system(head, system);
                     words::put_gsa(&mut *out, talker, g, satellites, count);
                     Taken::Accepted
                 }
@@ -192,11 +186,32 @@ fn dispatch(line: &[u8], x: Sentence, out: &mut [u64], table: &mut [u32]) -> Tak
     }
 }
 
+// The same refusal, made anew. Handed on as framing tells it, it would be put together in memory with the parts of a sentence.
+fn anew(why: Refusal) -> Refusal
+    ensures { λ r. ⌜ r ≡ why ⌝ }
+{
+    match why {
+        Refusal::BadUtf8 => Refusal::BadUtf8,
+        Refusal::NotAscii => Refusal::NotAscii,
+        Refusal::TooLong(length) => Refusal::TooLong(length),
+        Refusal::Syntax => Refusal::Syntax,
+        Refusal::UnknownType => Refusal::UnknownType,
+        Refusal::Checksum(calculated, found) => Refusal::Checksum(calculated, found),
+        Refusal::UnknownTalker(talker) => Refusal::UnknownTalker(talker),
+        Refusal::SystemMismatch(m, n) => Refusal::SystemMismatch(m, n),
+        Refusal::Number => Refusal::Number,
+        Refusal::WrongHeader(expected, found) => Refusal::WrongHeader(expected, found),
+        Refusal::BadTime => Refusal::BadTime,
+        Refusal::LogTooLong(length) => Refusal::LogTooLong(length),
+        Refusal::BadPlace(place) => Refusal::BadPlace(place),
+    }
+}
+
 fn tell(line: &[u8], out: &mut [u64], table: &mut [u32]) -> Taken
     ensures { λ r. ⌜ Tells (answer (now (line .entry))) (now (out .entry)) (now (out .exit)) (now (table .entry)) (now (table .exit)) r ⌝ }
 {
     match frame::parse_nmea_sentence(line) {
-        Framed::Refused(why) => Taken::Refused(why),
+        Framed::Refused(why) => Taken::Refused(anew(why)),
         Framed::Is(x) => dispatch(line, x, out, table),
     }
 }

@@ -30,7 +30,7 @@ pub both : {x x′ y y′ : Option ℕ} → x ≡ x′ → y ≡ y′ → settle
 both {x} {x′} {y} {y′} e f = ap (λ (o : Option ℕ). settle o y) e ∙ ap (settle x′) f
 
 module _ {m n : ℕ} where
-  pub agree : m ≡ n → is n ≡ settle (some m) (some n)
+  pub agree : m ≡ n → is (some n) ≡ settle (some m) (some n)
   agree e = sym (rw (eq-eqb m n e))
 
   pub differ : (m ≡ n → ⊥) → mismatch m n ≡ settle (some m) (some n)

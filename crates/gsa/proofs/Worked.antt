@@ -14,7 +14,7 @@ use Rattle.decimal.specs.Decimal.{decimal}
 use Rattle.decimal.specs.Places.{Short, shortDecimal}
 use Rattle.text.specs.Many.{many, skip, takeWhile1, eof, allConsuming, oneOf3}
 use Rattle.text.specs.Value.{Value, syntax, fault, is, value}
-use Rattle.gsa.specs.System.{gps, beidou, galileo, named, settle, absent, is as settled, mismatch}
+use Rattle.gsa.specs.System.{gps, beidou, galileo, named, settle, is, mismatch}
 use Rattle.gsa.specs.Gsa.{Gsa, Dops, lastSystem, emptyTail, item, prnFields, dop, dops, afterComma, optSystem, fullTail, gsa}
 
 -- what data says
@@ -56,13 +56,13 @@ pub record Worked : Type 0 where
   pub no-fix : says "A,4,,,," ≡ syntax
   -- the talker GP, and the tail of another system, of none and of its own
   pub differs : settle (named (byte "G") (byte "P")) (some galileo) ≡ mismatch gps galileo
-  pub from-talker : settle (named (byte "G") (byte "P")) none ≡ settled gps
-  pub agrees : settle (named (byte "G") (byte "P")) (some gps) ≡ settled gps
+  pub from-talker : settle (named (byte "G") (byte "P")) none ≡ is (some gps)
+  pub agrees : settle (named (byte "G") (byte "P")) (some gps) ≡ is (some gps)
   -- GN names no system; BD and GB name one
-  pub from-tail : settle (named (byte "G") (byte "N")) (some galileo) ≡ settled galileo
-  pub neither : settle (named (byte "G") (byte "N")) none ≡ absent
-  pub old-beidou : settle (named (byte "B") (byte "D")) none ≡ settled beidou
-  pub new-beidou : settle (named (byte "G") (byte "B")) none ≡ settled beidou
+  pub from-tail : settle (named (byte "G") (byte "N")) (some galileo) ≡ is (some galileo)
+  pub neither : settle (named (byte "G") (byte "N")) none ≡ is none
+  pub old-beidou : settle (named (byte "B") (byte "D")) none ≡ is (some beidou)
+  pub new-beidou : settle (named (byte "G") (byte "B")) none ≡ is (some beidou)
 
 pub worked : Worked
 unfolding gsa emptyTail fullTail lastSystem prnFields item many dops dop afterComma optSystem allConsuming takeWhile1 skip eof oneOf3 oneOf char opt alt orMiss number numberFrom shortDecimal decimal _>>=_ pure round ofBits ofFields odd units size span climb trailingZeros

@@ -11,7 +11,7 @@ use Rattle.decimal.specs.Places.{Short}
 use Rattle.decimal.specs.Answer.{aShort}
 use Rattle.decimal.specs.declared.ShortDecimal.{ShortDecimal}
 use Rattle.text.specs.Value.{Value, syntax, fault as refusal, is}
-use Rattle.gsa.specs.System.{Settled, absent, is as settledAs, mismatch}
+use Rattle.gsa.specs.System.{Settled, is as settledAs, mismatch}
 use Rattle.gsa.specs.Gsa.{Dops, Gsa, Tail, kept}
 use Rattle.gsa.specs.declared.System.{System}
 use Rattle.gsa.specs.declared.System.the-variants.{Absent as NoSystem, Is as ASystem}
@@ -35,7 +35,7 @@ use Rattle.gsa.specs.declared.GsaAnswer.{GsaAnswer}
 use Rattle.gsa.specs.declared.GsaAnswer.the-variants.{Syntax, Number as NotNumber, Is as AGsa}
 use Rattle.gsa.specs.declared.GsaRead.{GsaRead}
 use Rattle.gsa.specs.declared.Settled.{Settled as SettledCode}
-use Rattle.gsa.specs.declared.Settled.the-variants.{Absent as Unsettled, Is as SettledIs, Mismatch}
+use Rattle.gsa.specs.declared.Settled.the-variants.{Is as SettledIs, Mismatch}
 
 abbrev pub system : System → Option ℕ
 system NoSystem = none
@@ -122,6 +122,5 @@ abbrev pub headWith : GsaHead → System → GsaHead
 headWith h s = record { mode = h .mode; fix = h .fix; dops = h .dops; system = s }
 
 abbrev pub settled : SettledCode → Settled
-settled Unsettled = absent
-settled (SettledIs n) = settledAs n
+settled (SettledIs s) = settledAs (system s)
 settled (Mismatch m n) = mismatch m n

@@ -35,15 +35,13 @@ named a b =
     (cond (spells a b "G" "L") (some glonass)
     (cond (spells a b "B" "D" || spells a b "G" "B") (some beidou) none)))
 
--- the system of a sentence, if it has one, or two that differ: the talker's and the tail's
+-- the system of a sentence, if it has one; or two that differ: the talker's and the tail's
 pub data Settled : Type 0 where
-  absent : Settled
-  is : ℕ → Settled
+  is : Option ℕ → Settled
   mismatch : ℕ → ℕ → Settled
 
 -- "two different ones are 8; an absent one is taken from the talker": the talker's first, and then the tail's
 abbrev pub settle : Option ℕ → Option ℕ → Settled
-settle none none = absent
-settle none (some n) = is n
-settle (some m) none = is m
-settle (some m) (some n) = cond (eqb m n) (is n) (mismatch m n)
+settle none tail = is tail
+settle (some m) none = is (some m)
+settle (some m) (some n) = cond (eqb m n) (is (some n)) (mismatch m n)

@@ -118,10 +118,9 @@ pub struct GsaRead {
     pub count: usize,
 }
 
-// The system of a sentence, or two that differ: the talker's and the tail's.
+// The system of a sentence, which may be absent; or two that differ: the talker's and the tail's.
 pub enum Settled {
-    Absent,
-    Is(u8),
+    Is(System),
     Mismatch(u8, u8),
 }
 
@@ -441,19 +440,15 @@ pub fn settle(a: u8, b: u8, tail: System) -> Settled
 {
     let talker = named(a, b);
     let System::Is(m) = talker else {
-        return match tail {
-            System::Is(n) => Settled::Is(n),
-            System::Absent => Settled::Absent,
-        };
+        return Settled::Is(tail);
     };
     let System::Is(n) = tail else {
-        return Settled::Is(m);
+        return Settled::Is(talker);
     };
     if m == n {
-        Settled::Is(n)
-    } else {
-        Settled::Mismatch(m, n)
+        return Settled::Is(tail);
     }
+    Settled::Mismatch(m, n)
 }
 
 // A record whose system is settled.

@@ -5,7 +5,7 @@ use mathlib.Core.List.{List}
 use mathlib.Core.Option.{Option, none, some}
 use lib.ListN.{take}
 use Rattle.text.specs.Value.{Value, syntax, fault, is, value}
-use Rattle.gsa.specs.System.{Settled, absent, is as settledAs, mismatch, named}
+use Rattle.gsa.specs.System.{Settled, is as settledAs, mismatch, named}
 use Rattle.gsa.specs.System as Spec
 use Rattle.gsa.specs.Gsa.{Gsa, Dops, gsa}
 use Rattle.gsa.specs.Answer.{system, dopsOf, gsaOf, said, Answers, settled, headWith}
@@ -18,7 +18,7 @@ use Rattle.gsa.specs.declared.GsaAnswer.{GsaAnswer}
 use Rattle.gsa.specs.declared.GsaAnswer.the-variants.{Syntax, Number as NotNumber, Is as AGsa}
 use Rattle.gsa.specs.declared.GsaRead.{GsaRead}
 use Rattle.gsa.specs.declared.Settled.{Settled as SettledCode}
-use Rattle.gsa.specs.declared.Settled.the-variants.{Absent as Unsettled, Is as SettledIs, Mismatch}
+use Rattle.gsa.specs.declared.Settled.the-variants.{Is as SettledIs, Mismatch}
 use Rattle.only.proofs.Laws.{same, brought, undone}
 use Rattle.only.proofs.Decimal.{short-of}
 
@@ -60,14 +60,12 @@ answer-is xs NotNumber = refl
 answer-is xs (AGsa h) = ap AGsa (head-is xs h)
 
 settled-of : Settled → SettledCode
-settled-of absent = Unsettled
-settled-of (settledAs n) = SettledIs n
+settled-of (settledAs s) = SettledIs (system-of s)
 settled-of (mismatch m n) = Mismatch m n
 
 settled-is : (r : SettledCode) → settled-of (settled r) ≡ r
 unfolding settled-of
-settled-is Unsettled = refl
-settled-is (SettledIs n) = refl
+settled-is (SettledIs s) = ap SettledIs (system-is s)
 settled-is (Mismatch m n) = refl
 
 pub do-parse-gsa : (s : List ℕ) {r q : GsaRead} → Answers (value (gsa s)) r → Answers (value (gsa s)) q → r ≡ q

@@ -21,7 +21,6 @@ use gll::GllRead;
 use gsa::GsaAnswer;
 use gsa::GsaHead;
 use gsa::Settled;
-use gsa::System;
 use gsv::GsvRead;
 use gsv::GsvRecord;
 use gsv::TalkerOf;
@@ -209,16 +208,8 @@ fn gsa_of(s: &[u8], x: Sentence) -> ParseResult
         GsaAnswer::Is(head) => {
             let tail = head.system;
             match gsa::settle(talker.0, talker.1, tail) {
-                Settled::Absent => {
-                    let head = gsa::with_system(head, System::Absent);
-                    ParseResult {
-                        answer: Record::Gsa(GsaRecord { talker, head }),
-                        satellites: satellites,
-                        count: count,
-                    }
-                }
-                Settled::Is(n) => {
-                    let head = gsa::with_system(head, System::Is(n));
+                Settled::Is(system) => {
+                    let head = gsa::with_system(head, system);
                     ParseResult {
                         answer: Record::Gsa(GsaRecord { talker, head }),
                         satellites: satellites,

@@ -10,7 +10,7 @@ use Rattle.text.specs.Value.{Value, value, syntax, fault, is}
 use Rattle.frame.specs.Frame.{Parts, Outcome, accepted, refused, frame}
 use Rattle.gsv.specs.Talker.{Talker}
 use Rattle.gsv.specs.Gsv.{Gsv, gsv, GsvSentence}
-use Rattle.gsa.specs.System.{Settled, absent, is as settledAs, mismatch, settle}
+use Rattle.gsa.specs.System.{Settled, is as settledAs, mismatch, settle}
 use Rattle.gsa.specs.Gsa.{Gsa, gsa}
 use Rattle.rmc.specs.Rmc.{rmc}
 use Rattle.gga.specs.Gga.{gga}
@@ -32,8 +32,7 @@ never f h n (fault x) e = let z : _≡_ {A = ℕ} 0 1 = cc in omega arith
 never f h n (is a) e = n a e
 
 no-gsa : (h : GsvSentence) (t : List ℕ) (g : Gsa) (s : Settled) → settledGsa t g s ≡ isGsv h → ⊥
-no-gsa h t g absent e = let z : _≡_ {A = ℕ} 0 1 = cc in omega arith
-no-gsa h t g (settledAs n) e = let z : _≡_ {A = ℕ} 0 1 = cc in omega arith
+no-gsa h t g (settledAs s) e = let z : _≡_ {A = ℕ} 0 1 = cc in omega arith
 no-gsa h t g (mismatch m n) e = let z : _≡_ {A = ℕ} 0 1 = cc in omega arith
 
 module _ (l : List ℕ) (h : GsvSentence) (p : Parts) (f : frame l ≡ accepted p) where

@@ -54,18 +54,12 @@ returns-3 : tie.Need-returns-3
 returns-3 c t =
     let k = c .before .before in
     let h = k .before .before in
-    recorded (h .before .before .before) (h .before .enum-told3 .given .1) (h .with-system .ensures) refl (k .put-gsa .ensures)
-
-returns-4 : tie.Need-returns-4
-returns-4 c t =
-    let k = c .before .before in
-    let h = k .before .before in
-    recorded (h .before .before .before .before) (h .before .before .n .given .1) (h .with-system2 .ensures) refl (k .put-gsa2 .ensures)
+    recorded (h .before .before .before .before) (h .before .before .system .given .1) (h .with-system .ensures) refl (k .put-gsa .ensures)
 
 pub take-gsa-spec : {M : Type 1} → statement M
 take-gsa-spec = tie.close (tie.spec
     (λ c κs. search needs) (λ c κs. search needs) (λ c. search needs) (λ c. search needs) (λ c. search needs) (λ c κs. search needs)
-    (λ c. search needs) (λ c κs. search needs) (λ c κs. search needs) (λ c. search needs) (λ c κs. search needs) (λ c κs. search needs)
-    (λ c. search needs) (λ c t. not-taken Syntax (by-data (c .before .before .before) (c .enum-told .given .1)))
+    (λ c. search needs) (λ c κs. search needs) (λ c κs. search needs) (λ c. search needs)
+    (λ c t. not-taken Syntax (by-data (c .before .before .before) (c .enum-told .given .1)))
     (λ c t. not-taken Number (by-data (c .before .before .before) (c .enum-told2 .given .1))) (λ c. search needs) returns-3
-    (λ c. search needs) returns-4 (λ c t. not-taken (SystemMismatch _ _) (by-system (c .before .before .before) (c .before .m .given .1))))
+    (λ c t. not-taken (SystemMismatch _ _) (by-system (c .before .before .before) (c .before .m .given .1))))

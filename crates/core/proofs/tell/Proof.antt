@@ -1,5 +1,7 @@
 -- `tell` meets its contract: framing first, then the dispatch. Assumes nothing.
+use mathlib.Core.Path.{ap, sym, _∙_}
 use denote.Ref.{now}
+use Rattle.frame.specs.declared.parse.Framed.the-variants.{Refused}
 use Rattle.answer.specs.Sentence.{dispatch, answer}
 use Rattle.sentence.proofs.Told.{framed-refused, framed-is, framed-within}
 use Rattle.core.proofs.Tells.{as-answer, not-taken}
@@ -16,8 +18,10 @@ dispatch-requires c κs =
 returns : tie.Need-returns
 unfolding answer
 returns c =
-    let f = c .before .before .before in
-    not-taken _ (framed-refused dispatch (now (f .before .before .before .before .args .line)) (f .parse-nmea-sentence .ensures .0) (c .before .why .given .1))
+    let w = c .before .before in
+    let f = w .before .before in
+    not-taken _ (framed-refused dispatch (now (f .before .before .before .before .args .line)) (f .parse-nmea-sentence .ensures .0)
+    (w .why .given .1 ∙ ap Refused (sym (c .anew .ensures))))
 
 returns-2 : tie.Need-returns-2
 unfolding answer
@@ -30,4 +34,4 @@ returns-2 c =
 
 pub tell-spec : {M : Type 1} → statement M
 tell-spec = tie.close (tie.spec
-    (λ c κs. search needs) (λ c. search needs) (λ c. search needs) dispatch-requires returns (λ c. search needs) (λ c. search needs) returns-2)
+    (λ c κs. search needs) (λ c. search needs) (λ c κs. search needs) (λ c. search needs) dispatch-requires returns (λ c. search needs) (λ c. search needs) returns-2)

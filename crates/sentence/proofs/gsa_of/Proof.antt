@@ -45,9 +45,7 @@ pub gsa-of-spec : {M : Type 1} → statement M
 gsa-of-spec = tie.close (tie.spec
     (λ c κs. search needs) (λ c κs. search needs) (λ c. search needs) (λ c κs. search needs) (λ c. search needs) (λ c κs. search needs)
     (λ c. search needs) (λ c κs. search needs) (λ c. search needs) (λ c κs. search needs) (λ c. search needs) (λ c κs. search needs)
-    (λ c. search needs) (λ c κs. search needs)
     (λ c. (alone-is (c .alone .ensures) (by-data (c .before .before .before .before) (c .before .enum-told .given .1)) refl, refl))
     (λ c. (alone-is (c .alone2 .ensures) (by-data (c .before .before .before .before) (c .before .enum-told2 .given .1)) refl, refl))
-    (λ c. (recorded (c .before .before .before) (c .before .enum-told3 .given .1) (c .with-system .ensures) refl, refl))
-    (λ c. (recorded (c .before .before .before .before) (c .before .before .n .given .1) (c .with-system2 .ensures) refl, refl))
+    (λ c. (recorded (c .before .before .before .before) (c .before .before .system .given .1) (c .with-system .ensures) refl, refl))
     (λ c. (alone-is (c .alone3 .ensures) (by-system (c .before .before .before .before) (c .before .before .m .given .1)) refl, refl)))

@@ -1,9 +1,9 @@
 /* Prints the satellite groups of a log of any size, of the file that is named or of standard input, one a line:
  *
- *     3 GP GPS 3 11 3/3/111/0 4/15/270/0 27/5/244/-
+ *     3 GPS 3 11 3/3/111/0 4/15/270/0 27/5/244/-
  *
- * the number of the line that completed the group, its talker and system, sentences and satellites in view, then each satellite
- * with its elevation, azimuth and signal, - for one that is absent. Where target/staticlib has libcapi.a (docs/ABI.md), it is compiled by
+ * the number of the line that completed the group, its system, sentences and satellites in view, then each satellite with its
+ * elevation, azimuth and signal, - for one that is absent. Where target/staticlib has libcapi.a (docs/ABI.md), it is compiled by
  *
  *     cc -std=c99 -Iinclude -o groups examples/groups.c target/staticlib/libcapi.a
  *
@@ -42,9 +42,8 @@ static int stretch(uint8_t **line, size_t *room)
 
 static void print_group(unsigned long long line, const uint64_t *row)
 {
-    const uint64_t *talker = row + NMEA_ROW_TALKER;
-    printf("%llu %c%c %s %llu %llu", line, (int)talker[0], (int)talker[1], names[row[NMEA_ROW_SYSTEM]],
-           (unsigned long long)row[NMEA_ROW_SENTENCES], (unsigned long long)row[NMEA_ROW_VIEW]);
+    printf("%llu %s %llu %llu", line, names[row[NMEA_ROW_SYSTEM]], (unsigned long long)row[NMEA_ROW_SENTENCES],
+           (unsigned long long)row[NMEA_ROW_VIEW]);
     for (uint64_t i = 0; i < row[NMEA_ROW_COUNT]; i++) {
         const uint64_t *entry = row + NMEA_ROW_ENTRIES + NMEA_ENTRY_WORDS * i;
         printf(" %llu", (unsigned long long)entry[NMEA_ENTRY_SATELLITE]);

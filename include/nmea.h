@@ -178,10 +178,10 @@ uint32_t nmea_answer(const uint8_t *line, size_t length, uint64_t *words, size_t
 uint32_t nmea_walk(const uint8_t *log, size_t length, uint64_t *totals, size_t count);
 
 /* The words of a table, which gathers a log's groups of satellites. */
-#define NMEA_TABLE 1332
+#define NMEA_TABLE 888
 
-/* Its rows, one for each talker of GSV: GA, GP, GL, BD, GB, GI, GQ, PQ, QZ; the words of a row, and of these its parts. */
-#define NMEA_ROWS 9
+/* Its rows, one for each system, in the order of their numbers; the words of a row, and of these its parts. */
+#define NMEA_ROWS 6
 #define NMEA_ROW 148
 #define NMEA_RUN_SENTENCES 0
 #define NMEA_RUN_WAITS_FOR 1
@@ -200,7 +200,7 @@ uint32_t nmea_walk(const uint8_t *log, size_t length, uint64_t *totals, size_t c
 /* In a cell, where there is no elevation, azimuth or signal. */
 #define NMEA_ABSENT 4294967295u
 
-/* Makes a table of 1332 words fresh, for the first line of a log: sets each word to 0, NMEA_DONE. With another count: NMEA_UNDONE. */
+/* Makes a table of 888 words fresh, for the first line of a log: sets each word to 0, NMEA_DONE. With another count: NMEA_UNDONE. */
 uint32_t nmea_fresh(uint32_t *table, size_t table_words);
 
 /* What nmea_gather answers to a line that it takes. */
@@ -211,27 +211,26 @@ uint32_t nmea_fresh(uint32_t *table, size_t table_words);
 
 /* Takes the next line of a log, without its line end: writes the answer as nmea_answer does, and has the table follow the line.
  * NMEA_NO_GSV: the line is no accepted GSV line; the table is as it was.
- * NMEA_NO_RUN: an accepted GSV line behind which no run stands: it broke its talker's, or started none.
+ * NMEA_NO_RUN: an accepted GSV line behind which no run stands: it broke its system's, or started none.
  * NMEA_WAITS: an accepted GSV line; its run waits for the next.
  * NMEA_GROUP and the number of a row above it: an accepted GSV line that completed the run of that row. The row has the group, until
- * its talker's next accepted GSV line.
- * NMEA_UNDONE, which is above all of these: the buffer has fewer than 40 words, or the table not 1332; neither is written.
+ * its system's next accepted GSV line.
+ * NMEA_UNDONE, which is above all of these: the buffer has fewer than 40 words, or the table not 888; neither is written.
  * No other row changes. A table may hold any words: a row that no accepted lines could have left counts as one without a run, and stands
- * as it is until its talker's next accepted GSV line. */
+ * as it is until its system's next accepted GSV line. */
 uint32_t nmea_gather(const uint8_t *line, size_t length, uint64_t *words, size_t count, uint32_t *table, size_t table_words);
 
 /* The words of a row that is read, with an entry for each cell. */
-#define NMEA_ROW_WORDS 295
-#define NMEA_ROW_TALKER 0
-#define NMEA_ROW_SYSTEM 2
-#define NMEA_ROW_SENTENCES 3
-#define NMEA_ROW_WAITS_FOR 4
-#define NMEA_ROW_VIEW 5
-#define NMEA_ROW_COUNT 6
-#define NMEA_ROW_ENTRIES 7
+#define NMEA_ROW_WORDS 293
+#define NMEA_ROW_SYSTEM 0
+#define NMEA_ROW_SENTENCES 1
+#define NMEA_ROW_WAITS_FOR 2
+#define NMEA_ROW_VIEW 3
+#define NMEA_ROW_COUNT 4
+#define NMEA_ROW_ENTRIES 5
 
-/* Reads a row of a table, from 0 on. With a buffer of 295 words or more it writes the first 295, each of them: NMEA_DONE; words after
- * them are left as they were. With a shorter buffer, a table that has not 1332 words, a row of 9 or more, or one that says that it has
+/* Reads a row of a table, from 0 on. With a buffer of 293 words or more it writes the first 293, each of them: NMEA_DONE; words after
+ * them are left as they were. With a shorter buffer, a table that has not 888 words, a row of 6 or more, or one that says that it has
  * more than 36 satellites: NMEA_UNDONE. Whether the row is a group is what nmea_gather answered: one whose run broke still has what came
  * before. */
 uint32_t nmea_row(const uint32_t *table, size_t table_words, size_t row, uint64_t *words, size_t count);

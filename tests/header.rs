@@ -137,7 +137,7 @@ const IN_CODE: [(&str, &str, &str); 19] = [
     (
         "crates/capi/src/lend.rt",
         "NMEA_ROW_",
-        "TALKER SYSTEM SENTENCES WAITS_FOR VIEW COUNT ENTRIES",
+        "SYSTEM SENTENCES WAITS_FOR VIEW COUNT ENTRIES",
     ),
 ];
 
@@ -272,36 +272,6 @@ fn systems() -> Vec<(String, u64)> {
             (name, number.parse().expect("a number"))
         })
         .collect()
-}
-
-/// The talkers' rows by the definition, in their order.
-fn rows() -> Vec<String> {
-    let definitions = read("crates/rows/specs/Key.antt");
-    let numbered = definitions
-        .lines()
-        .filter_map(|line| line.strip_prefix("rowNumber ")?.split_once(" = "));
-    let mut rows: Vec<(u64, String)> = numbered
-        .map(|(talker, row)| (row.parse().expect("a number"), talker.to_uppercase()))
-        .collect();
-    rows.sort();
-    rows.into_iter().map(|(_, talker)| talker).collect()
-}
-
-/// The header and docs/LISTS.md name the talkers by their rows.
-#[test]
-fn every_row_has_its_talker() {
-    let rows = rows();
-    assert_eq!(rows.len() as u64, defined()["NMEA_ROWS"]);
-    let header = format!("one for each talker of GSV: {};", rows.join(", "));
-    assert!(read("include/nmea.h").contains(&header), "{header}");
-    let lists = read("docs/LISTS.md");
-    for (row, talker) in rows.iter().enumerate() {
-        let told = lists.lines().any(|line| {
-            let cells: Vec<&str> = line.split(" | ").collect();
-            cells[0] == format!("| {talker}") && cells.get(2) == Some(&row.to_string().as_str())
-        });
-        assert!(told, "docs/LISTS.md: expected {talker} with row {row}");
-    }
 }
 
 /// Each constant of the header is the code's, or the definition's where the

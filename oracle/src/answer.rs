@@ -12,9 +12,6 @@ pub type F64Bits = u64;
 /// The three letters of a sentence's type.
 pub type TypeName = [u8; 3];
 
-/// The two letters of a sentence's talker.
-pub type Talker = [u8; 2];
-
 /// The answer to one line.
 #[derive(Clone, Debug, PartialEq, Eq)]
 pub enum Answer {

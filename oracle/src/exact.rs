@@ -2,7 +2,7 @@
 
 use std::{array, ops::Neg};
 
-use crate::{fields::Fields, known::talker_of, Answer, Entry, F32Bits, F64Bits, Gsv, Talker};
+use crate::{fields::Fields, Answer, Entry, F32Bits, F64Bits, Gsv};
 
 /// A short decimal.
 #[derive(Clone, Copy, Debug, PartialEq, Eq)]
@@ -51,7 +51,7 @@ pub struct WholeEntry {
 /// What only our answer to a line has. What its type lacks is absent.
 #[derive(Clone, Debug, Default, PartialEq, Eq)]
 pub struct Exact {
-    pub talker: Option<Talker>,
+    pub talker: Option<[u8; 2]>,
     /// Latitude and longitude.
     pub position: Option<[Coordinate; 2]>,
     /// Speed, course and variation; PDOP, HDOP and VDOP; HDOP, altitude and geoid
@@ -109,7 +109,7 @@ impl Exact {
             Answer::Refused(_) => return Some(Exact::default()),
         };
         Some(Exact {
-            talker: Some(talker_of(line)),
+            talker: Some([line[1], line[2]]),
             ..exact
         })
     }

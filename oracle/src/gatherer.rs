@@ -1,74 +1,53 @@
 //! Groups of satellites by document 01's words alone. Nothing is carried from
 //! line to line: what a group is stands here as it is defined.
 
-use crate::{known::talker_of, Answer, Entry, Gsv, System, Talker};
+use crate::{Answer, Entry, Gsv, System};
 
-/// The satellites that one talker's sentences list together.
+/// The satellites that one system's sentences list together.
 #[derive(Clone, Debug, PartialEq, Eq)]
 pub struct Group {
-    pub talker: Talker,
     pub system: System,
     pub sentences: u16,
     pub in_view: u16,
     pub entries: Vec<Entry>,
 }
 
-/// An accepted GSV line.
-#[derive(Clone, Copy)]
-struct Sent<'a> {
-    /// Its index in the log.
-    line: usize,
-    talker: Talker,
-    record: &'a Gsv,
-}
-
-/// The groups in a log's lines and the answers to them, of which a blank one
-/// has none. Each comes with the index of the line that hands it out.
-pub(crate) fn groups(lines: &[&[u8]], answers: &[Option<Answer>]) -> Vec<(usize, Group)> {
-    let answered = lines.iter().zip(answers).enumerate();
-    let sent: Vec<Sent> = answered
-        .filter_map(|(line, (bytes, answer))| match answer {
-            Some(Answer::Gsv(record)) => Some(Sent {
-                line,
-                talker: talker_of(bytes),
-                record,
-            }),
-            _ => None,
-        })
-        .collect();
-    sent.iter()
-        .enumerate()
-        .filter_map(|(at, last)| {
-            let group = group_of(&run_of(&sent[..=at], last), last)?;
-            Some((last.line, group))
-        })
+/// The groups in the answers to a log's lines, of which a blank one has none.
+/// Each comes with the index of the line that hands it out.
+pub(crate) fn groups(answers: &[Option<Answer>]) -> Vec<(usize, Group)> {
+    let ends_at = |index: usize| match &answers[index] {
+        Some(Answer::Gsv(last)) => group_of(&run_of(&answers[..=index], last), last),
+        _ => None,
+    };
+    (0..answers.len())
+        .filter_map(|index| ends_at(index).map(|group| (index, group)))
         .collect()
 }
 
-/// The records of the last line's talker up to that line, as many as it says
+/// The records of the last line's system up to that line, as many as it says
 /// that there are in all.
-fn run_of<'a>(sent: &[Sent<'a>], last: &Sent) -> Vec<&'a Gsv> {
-    let mut run: Vec<&Gsv> = sent
+fn run_of<'a>(answers: &'a [Option<Answer>], last: &Gsv) -> Vec<&'a Gsv> {
+    let mut run: Vec<&Gsv> = answers
         .iter()
         .rev()
-        .filter(|line| line.talker == last.talker)
-        .map(|line| line.record)
-        .take(last.record.sentences.into())
+        .filter_map(|answer| match answer {
+            Some(Answer::Gsv(record)) if record.system == last.system => Some(record),
+            _ => None,
+        })
+        .take(last.sentences.into())
         .collect();
     run.reverse();
     run
 }
 
 /// The group that the run is, if it is one.
-fn group_of(run: &[&Gsv], last: &Sent) -> Option<Group> {
-    let Sent { talker, record, .. } = *last;
+fn group_of(run: &[&Gsv], last: &Gsv) -> Option<Group> {
     let places: Vec<Place> = run.iter().map(|&record| Place::of(record)).collect();
-    let is_group = is_run(&places) && record.number == record.sentences;
+    let is_group = is_run(&places) && last.number == last.sentences;
     is_group.then(|| Group {
-        talker,
-        system: record.system,
-        sentences: record.sentences,
-        in_view: record.in_view,
+        system: last.system,
+        sentences: last.sentences,
+        in_view: last.in_view,
         entries: run
             .iter()
             .flat_map(|record| record.entries.into_iter().flatten())
@@ -94,7 +73,7 @@ impl Place {
     }
 }
 
-/// Whether lines of one talker that follow one another are a group's first, or
+/// Whether lines of one system that follow one another are a group's first, or
 /// all of them: of 1 to 9 sentences, numbered from 1 on, with equal counts of
 /// sentences and of satellites in view.
 pub(crate) fn is_run(lines: &[Place]) -> bool {

@@ -1,4 +1,4 @@
-use crate::{System, Talker};
+use crate::System;
 
 /// The thirty types that document 01 knows.
 pub const KNOWN_TYPES: [&str; 30] = [
@@ -7,28 +7,15 @@ pub const KNOWN_TYPES: [&str; 30] = [
     "WNC", "ZDA", "ZFO", "ZTG",
 ];
 
-/// The talkers of GSV, in the order of their rows.
-pub const TALKERS: [Talker; 9] = [
-    *b"GA", *b"GP", *b"GL", *b"BD", *b"GB", *b"GI", *b"GQ", *b"PQ", *b"QZ",
+/// The talkers of GSV, by the numbers of their systems; those of some count together.
+pub(crate) const TALKERS: [&[&str]; System::ALL.len()] = [
+    &["GP"],
+    &["GL"],
+    &["GA"],
+    &["BD", "GB"],
+    &["GQ", "PQ", "QZ"],
+    &["GI"],
 ];
-
-/// The system that a talker of GSV names; none where it is no such talker.
-pub fn system_of(talker: Talker) -> Option<System> {
-    Some(match &talker {
-        b"GP" => System::Gps,
-        b"GL" => System::Glonass,
-        b"GA" => System::Galileo,
-        b"BD" | b"GB" => System::Beidou,
-        b"GQ" | b"PQ" | b"QZ" => System::Qzss,
-        b"GI" => System::NavIc,
-        _ => return None,
-    })
-}
-
-/// The talker of a line that is accepted, which stands behind its `$`.
-pub(crate) fn talker_of(line: &[u8]) -> Talker {
-    [line[1], line[2]]
-}
 
 /// The longest line that is framed.
 pub(crate) const LONGEST: usize = 102;

@@ -4,9 +4,9 @@
 use crate::{
     expected,
     gatherer::{is_run, Place},
-    known::{talker_of, LONGEST},
+    known::LONGEST,
     table::{row_mut, Cell, Gathered, Row, Table},
-    words_of, Answer, Gsv, Talker, Words,
+    words_of, Answer, Gsv, Words,
 };
 
 /// The most sentences that a group has.
@@ -122,7 +122,7 @@ fn digits(number: u32) -> usize {
 
 /// The bodies of lines that leave the row, under a talker; none where there are
 /// no such lines.
-pub fn lines_that_leave(words: &[u32], talker: Talker) -> Option<Vec<String>> {
+pub fn lines_that_leave(words: &[u32], talker: &str) -> Option<Vec<String>> {
     if Lent::of(words) != Lent::Run {
         return None;
     }
@@ -134,7 +134,6 @@ pub fn lines_that_leave(words: &[u32], talker: Talker) -> Option<Vec<String>> {
     } = Row::of(words)?;
     let ends = cuts(in_view, &cells, LONGEST)?;
     let mut start = 0;
-    let talker = talker.escape_ascii();
     let line = |number: u32| {
         // Where fewer lines have all satellites, the others come without any.
         let end = ends.get(number as usize - 1).copied();
@@ -161,15 +160,14 @@ pub fn plain_gather(line: &[u8], table: &mut Table) -> (Words, Gathered) {
     let Answer::Gsv(record) = &answer.answer else {
         return (words, Gathered::NoGsv);
     };
-    let talker = talker_of(line);
-    let row = row_mut(table, talker);
+    let row = row_mut(table, record.system);
     let entries = answer.exact.entries.into_iter().flatten();
     let cells = entries.map(Cell::from).collect();
-    (words, follow(row, talker, record, cells))
+    (words, follow(row, record, cells))
 }
 
-/// Has a row follow an accepted line of its talker.
-fn follow(row: &mut [u32], talker: Talker, record: &Gsv, more: Vec<Cell>) -> Gathered {
+/// Has a row follow an accepted line of its system.
+fn follow(row: &mut [u32], record: &Gsv, more: Vec<Cell>) -> Gathered {
     let mut lines = lines_before(row);
     lines.push(Place::of(record));
     let run = lines.len().saturating_sub(record.number.into());
@@ -192,7 +190,7 @@ fn follow(row: &mut [u32], talker: Talker, record: &Gsv, more: Vec<Cell>) -> Gat
     };
     followed.put(row);
     match is_last {
-        true => Gathered::Group(talker),
+        true => Gathered::Group(record.system),
         false => Gathered::Waits,
     }
 }

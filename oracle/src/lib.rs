@@ -38,7 +38,7 @@ mod totals;
 mod vtg;
 mod words;
 
-pub use answer::{Answer, Class, F32Bits, F64Bits, System, Talker, TypeName};
+pub use answer::{Answer, Class, F32Bits, F64Bits, System, TypeName};
 pub use checksum::{checksum, repaired, with_checksum};
 pub(crate) use checksum::{hexadecimal, repair};
 pub use compare::{compare, Amount, Plan};
@@ -50,7 +50,7 @@ pub use gll::Gll;
 pub use gsa::Gsa;
 pub use gsv::{Entry, Gsv};
 pub use judge::{judge, Domain};
-pub use known::{system_of, KNOWN_TYPES, TALKERS};
+pub use known::KNOWN_TYPES;
 pub use lent::{lines_that_leave, plain_gather, Lent, Why};
 pub use log::{pieces, stretches, Log, Totals, LONGEST_LOG};
 #[cfg(target_arch = "x86_64")]
@@ -63,7 +63,7 @@ pub use refusal::Refusal;
 pub use replay::Replay;
 pub use report::{Difference, PartReport, Report, Tally};
 pub use rmc::{Date, Rmc, Time};
-pub use table::{row_number, row_of, row_read, Cell, Gathered, Row, Table};
+pub use table::{row_of, row_read, Cell, Gathered, Row, Table};
 pub use table::{ABSENT, CELLS, ROW, ROWS, ROW_WORDS, TABLE};
 pub use table::{GROUP, NO_GSV, NO_RUN, WAITS};
 #[cfg(target_arch = "x86_64")]

@@ -47,7 +47,7 @@ impl<'a> Log<'a> {
 
     /// The groups, each with the index of the line that hands it out.
     pub fn groups(&self) -> Vec<(usize, Group)> {
-        groups(&self.lines, &self.answers)
+        groups(&self.answers)
     }
 
     /// The totals of the first lines, for each count of lines from 0 on.

@@ -1,6 +1,6 @@
 use nmea::{Error, SentenceType};
 
-use crate::{System, Talker, TypeName};
+use crate::{System, TypeName};
 
 /// The refusals of a line, by document 01's table.
 ///
@@ -14,7 +14,7 @@ pub enum Refusal {
     Syntax,
     UnknownType,
     Checksum { calculated: u8, found: u8 },
-    UnknownTalker(Talker),
+    UnknownTalker([u8; 2]),
     SystemMismatch { talker: System, tail: System },
     Number,
     WrongHeader { expected: TypeName, found: TypeName },

@@ -1,9 +1,9 @@
 //! A table of runs: its words, and those of a row that is read, by docs/ABI.md.
 
-use crate::{known::TALKERS, words::Reader, System, Talker, WholeEntry, UNDONE};
+use crate::{words::Reader, System, WholeEntry, UNDONE};
 
-/// A row for each talker.
-pub const ROWS: usize = TALKERS.len();
+/// A row for each system.
+pub const ROWS: usize = System::ALL.len();
 
 /// The cells of a row: four satellites in each of nine sentences.
 pub const CELLS: usize = 36;
@@ -21,7 +21,7 @@ pub const ROW: usize = HEAD + CELLS * CELL;
 pub const TABLE: usize = ROWS * ROW;
 
 /// The words of a row that is read.
-pub const ROW_WORDS: usize = 7 + 8 * CELLS;
+pub const ROW_WORDS: usize = 5 + 8 * CELLS;
 
 /// A number of a cell that is absent.
 pub const ABSENT: u32 = u32::MAX;
@@ -108,31 +108,20 @@ impl Row {
     }
 }
 
-/// The number of a talker's row.
-///
-/// # Panics
-///
-/// If no GSV sentence has that talker.
-pub fn row_number(talker: Talker) -> usize {
-    let row = TALKERS.iter().position(|&letters| letters == talker);
-    row.expect("a talker of GSV")
+/// The words of a system's row.
+pub fn row_of(table: &[u32], system: System) -> &[u32] {
+    table.chunks_exact(ROW).nth(system as usize).expect("a row")
 }
 
-/// The words of a talker's row.
-pub fn row_of(table: &[u32], talker: Talker) -> &[u32] {
-    &table[row_number(talker) * ROW..][..ROW]
+pub(crate) fn row_mut(table: &mut [u32], system: System) -> &mut [u32] {
+    let mut rows = table.chunks_exact_mut(ROW);
+    rows.nth(system as usize).expect("a row")
 }
 
-pub(crate) fn row_mut(table: &mut [u32], talker: Talker) -> &mut [u32] {
-    &mut table[row_number(talker) * ROW..][..ROW]
-}
-
-/// Reads the words of `nmea_row`: who a row is for, and what it says. An error
-/// names the word that no row has.
-pub fn row_read(words: &[u64]) -> Result<(Talker, System, Row), String> {
+/// Reads the words of `nmea_row`. An error names the word that no row has.
+pub fn row_read(words: &[u64]) -> Result<(System, Row), String> {
     let mut reader = Reader::new(words);
-    let talker = [reader.fits()?, reader.fits()?];
-    let system = reader.system(System::ALL.len())?;
+    let system = reader.system(ROWS)?;
     let (sentences, waits_for, in_view) = (reader.fits()?, reader.fits()?, reader.fits()?);
     let count: usize = reader.fits()?;
     if count > CELLS {
@@ -157,7 +146,7 @@ pub fn row_read(words: &[u64]) -> Result<(Talker, System, Row), String> {
         in_view,
         cells,
     };
-    Ok((talker, system, row))
+    Ok((system, row))
 }
 
 /// A number that is there, which is not the one that stands for none.
@@ -184,8 +173,8 @@ pub enum Gathered {
     NoRun,
     /// The line's run waits for the next one.
     Waits,
-    /// The row of this talker is a group.
-    Group(Talker),
+    /// The row of this system is a group.
+    Group(System),
 }
 
 impl Gathered {
@@ -198,7 +187,7 @@ impl Gathered {
             UNDONE => None,
             _ => {
                 let row = usize::try_from(number - GROUP).ok()?;
-                TALKERS.get(row).copied().map(Gathered::Group)
+                System::ALL.get(row).copied().map(Gathered::Group)
             }
         }
     }

@@ -3,9 +3,9 @@
 use std::{collections::BTreeMap, fmt};
 
 use crate::{
-    known::LONGEST, lines::TableGenerator, linked_row, plain_gather, row_number, row_of, row_read,
-    system_of, words::WORDS, Gathered, Lent, Row, Table, Talker, Why, Words, DONE, GROUP, NO_GSV,
-    NO_RUN, ROWS, ROW_WORDS, TABLE, TALKERS, UNDONE, WAITS,
+    known::LONGEST, lines::TableGenerator, linked_row, plain_gather, row_of, row_read,
+    words::WORDS, Gathered, Lent, Row, System, Table, Why, Words, DONE, GROUP, NO_GSV, NO_RUN,
+    ROWS, ROW_WORDS, TABLE, UNDONE, WAITS,
 };
 
 /// The lines that a table is given, at most.
@@ -79,10 +79,9 @@ pub fn compare_tables(gather: Gather, tables: u64, seed: u64) -> Result<TablesRe
             }
             report.count(&before, plain_did, &plain_words);
         }
-        for talker in TALKERS {
-            if let Err(what) = same_row(&ours, talker) {
-                let talker = talker.escape_ascii();
-                return Err(format!("table {number} of seed {seed}, {talker}: {what}"));
+        for system in System::ALL {
+            if let Err(what) = same_row(&ours, system) {
+                return Err(format!("table {number} of seed {seed}, {system:?}: {what}"));
             }
         }
         report.tables += 1;
@@ -91,14 +90,11 @@ pub fn compare_tables(gather: Gather, tables: u64, seed: u64) -> Result<TablesRe
 }
 
 /// Holds a row as our side reads it to what its words say.
-fn same_row(table: &[u32], talker: Talker) -> Result<(), String> {
+fn same_row(table: &[u32], system: System) -> Result<(), String> {
     let mut words: Box<[u64]> = vec![u64::MAX; ROW_WORDS].into();
-    let read = linked_row(table, row_number(talker), &mut words);
-    let is_same = match Row::of(row_of(table, talker)) {
-        Some(row) => {
-            let (of, system, said) = row_read(&words)?;
-            read == DONE && (of, Some(system), said) == (talker, system_of(talker), row)
-        }
+    let read = linked_row(table, system as usize, &mut words);
+    let is_same = match Row::of(row_of(table, system)) {
+        Some(row) => read == DONE && row_read(&words)? == (system, row),
         None => read == UNDONE && words.iter().all(|&word| word == u64::MAX),
     };
     match is_same {
@@ -115,13 +111,13 @@ impl TablesReport {
             Gathered::NoGsv => Did::OtherType,
             Gathered::NoRun => Did::NoRun,
             Gathered::Waits => Did::Waits,
-            Gathered::Group(talker) => Did::Group(row_number(talker)),
+            Gathered::Group(system) => Did::Group(system as usize),
         };
         *self.did.entry(did).or_default() += 1;
-        let [3, first, second, _, counts @ ..] = words else {
+        let [3, _, _, system, counts @ ..] = words else {
             return;
         };
-        let row = row_of(table, [*first as u8, *second as u8]);
+        let row = row_of(table, System::ALL[*system as usize - 1]);
         let lent = Lent::of(row);
         let met = self.met.entry(lent).or_default();
         met[0] += 1;
@@ -193,8 +189,8 @@ impl fmt::Display for Did {
             Did::NoRun => write!(f, "{NO_RUN}, no run"),
             Did::Waits => write!(f, "{WAITS}, waits"),
             Did::Group(row) => {
-                let number = GROUP + *row as u32;
-                write!(f, "{number}, a group of {}", TALKERS[*row].escape_ascii())
+                let (number, system) = (GROUP + *row as u32, System::ALL[*row]);
+                write!(f, "{number}, a group of {system:?}")
             }
         }
     }

@@ -4,8 +4,8 @@ mod reader;
 mod writer;
 
 use crate::{
-    Answer, Coordinate, Date, Decimal, Entry, Exact, Gga, Gll, Gsa, Gsv, Refusal, Rmc, Speed,
-    Talker, Time, Vtg, WholeEntry,
+    Answer, Coordinate, Date, Decimal, Entry, Exact, Gga, Gll, Gsa, Gsv, Refusal, Rmc, Speed, Time,
+    Vtg, WholeEntry,
 };
 pub(crate) use reader::Reader;
 pub use writer::words_of;
@@ -52,7 +52,7 @@ pub fn answer_of(words: &Words) -> Result<OursAnswer, String> {
 }
 
 /// The talker, with which every accepted line's answer begins.
-fn talker(reader: &mut Reader) -> Result<Option<Talker>, String> {
+fn talker(reader: &mut Reader) -> Result<Option<[u8; 2]>, String> {
     Ok(Some([reader.fits()?, reader.fits()?]))
 }
 

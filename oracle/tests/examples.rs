@@ -85,17 +85,17 @@ fn groups(log: &[u8]) -> String {
     let mut printed = String::new();
     for (index, group) in plain.groups() {
         let lines = plain.lines.iter().zip(&plain.answers);
-        let of_talker = lines
+        let of_system = lines
             .take(index + 1)
-            .filter(|(line, answer)| {
-                matches!(answer, Some(Answer::Gsv(_))) && line[1..3] == group.talker
+            .filter(|(_, answer)| {
+                matches!(answer, Some(Answer::Gsv(record)) if record.system == group.system)
             })
             .map(|(line, _)| *line);
-        let lines: Vec<&[u8]> = of_talker.collect();
+        let lines: Vec<&[u8]> = of_system.collect();
         let own = &lines[lines.len() - usize::from(group.sentences)..];
-        let (talker, system) = (group.talker.escape_ascii(), name(group.system));
+        let system = name(group.system);
         printed += &format!(
-            "{} {talker} {system} {} {}",
+            "{} {system} {} {}",
             index + 1,
             group.sentences,
             group.in_view
@@ -146,7 +146,7 @@ fn worked() -> String {
 }
 
 const WORKED: &str =
-    "5 GP GPS 3 11 3/3/111/0 4/15/270/0 6/1/10/0 13/6/292/0 14/25/170/0 16/57/208/39 \
+    "5 GPS 3 11 3/3/111/0 4/15/270/0 6/1/10/0 13/6/292/0 14/25/170/0 16/57/208/39 \
                       18/67/296/40 19/40/246/0 22/42/67/42 24/14/311/43 27/5/244/-\n";
 
 #[test]
@@ -167,7 +167,7 @@ fn a_worked_log() -> Checked {
 fn one_carriage_return_is_no_part_of_the_line() -> Checked {
     let mut line = with_checksum("GPGSV,1,1,01,07,,,");
     line += &"x".repeat(102 - line.len());
-    for (end, printed) in [("\r\n", "1 GP GPS 1 1 7/-/-/-\n"), ("\r\r\n", "")] {
+    for (end, printed) in [("\r\n", "1 GPS 1 1 7/-/-/-\n"), ("\r\r\n", "")] {
         let log = line.clone() + end;
         assert_eq!(groups(log.as_bytes()), printed);
         prints(log.as_bytes(), printed, end)?;
@@ -234,8 +234,8 @@ fn long_lines_and_zero_bytes() -> Checked {
         log.extend(b"\n\0");
         log.extend(sentence.bytes());
         let expected: String = (1..=lengths.len())
-            .map(|group| format!("{} GP GPS 1 1 7/-/-/-\n", 2 * group))
-            .chain(["21 GP GPS 1 1 7/-/-/-\n".into()])
+            .map(|group| format!("{} GPS 1 1 7/-/-/-\n", 2 * group))
+            .chain(["21 GPS 1 1 7/-/-/-\n".into()])
             .collect();
         assert_eq!(groups(&log), expected);
         prints(&log, &expected, "long lines")?;

@@ -4,7 +4,7 @@
 
 use oracle::{
     compare_tables, lines::TableGenerator, lines_that_leave, linked_gather, plain_gather, row_of,
-    with_checksum, Cell, Gathered, Lent, Row, Why, GROUP, NO_GSV, NO_RUN, ROW, TABLE, TALKERS,
+    with_checksum, Cell, Gathered, Lent, Row, System, Why, GROUP, NO_GSV, NO_RUN, ROW, TABLE,
     WAITS,
 };
 
@@ -13,10 +13,7 @@ const TABLES: u64 = 120_000;
 
 const PLACE_MAX: u32 = i32::MAX as u32;
 
-/// The talker of the first row.
-const FIRST: [u8; 2] = *b"GA";
-
-/// A first row that waits for the second line of two, with 8 in view.
+/// A row of GPS that waits for the second line of two, with 8 in view.
 fn waiting(cells: &[Cell]) -> Box<[u32; TABLE]> {
     let mut table = Box::new([0; TABLE]);
     let row = Row {
@@ -57,7 +54,7 @@ fn gathered(line: &str, table: &[u32; TABLE]) -> (u32, Box<[u32; TABLE]>) {
 #[test]
 fn a_byte_decides_whether_a_row_stands() {
     let widest = cell(u32::MAX, [PLACE_MAX; 3]);
-    let line = "GAGSV,2,2,8,5,6,7,8";
+    let line = "GPGSV,2,2,8,5,6,7,8";
 
     let table = waiting(&[widest, widest]);
     assert_eq!(Lent::of(&table[..ROW]), Lent::Never(Why::Lines));
@@ -70,7 +67,7 @@ fn a_byte_decides_whether_a_row_stands() {
 
     let shorter = cell(u32::MAX, [PLACE_MAX, PLACE_MAX, 214_748_364]);
     let table = waiting(&[widest, shorter]);
-    let body = &lines_that_leave(&table[..ROW], FIRST).expect("a row that stands")[0];
+    let body = &lines_that_leave(&table[..ROW], "GP").expect("a row that stands")[0];
     assert_eq!(with_checksum(body).len(), 102);
     let (did, after) = gathered(line, &table);
     assert_eq!(did, GROUP);
@@ -112,7 +109,7 @@ fn rows_at_their_limits() {
         let mut table = waiting(&[cell(1, [2, 3, 4])]);
         change(&mut table[..ROW]);
         assert_eq!(Lent::of(&table[..ROW]), expected, "{number}");
-        let line = format!("GAGSV,{},{},{},7,,,", table[0], table[1], table[2]);
+        let line = format!("GPGSV,{},{},{},7,,,", table[0], table[1], table[2]);
         let (did, _) = gathered(&line, &table);
         match expected {
             Lent::Run => assert!([WAITS, GROUP].contains(&did), "{number}: {did}"),
@@ -194,13 +191,14 @@ fn a_wrong_gatherer_is_found() {
 /// and leave the row in a fresh table, on both sides.
 #[test]
 fn lines_leave_the_rows_that_stand() {
+    const TALKERS: [&str; 6] = ["GP", "GL", "GA", "BD", "QZ", "GI"];
     let mut generator = TableGenerator::new(2);
     let mut table = Box::new([0; TABLE]);
     let (mut stand, mut empty, mut longest) = (0, 0, 0);
     for _ in 0..3_000 {
         generator.fill(&mut table);
-        for talker in TALKERS {
-            let row = row_of(&*table, talker);
+        for (system, talker) in System::ALL.into_iter().zip(TALKERS) {
+            let row = row_of(&*table, system);
             let Some(lines) = lines_that_leave(row, talker) else {
                 empty += 1;
                 continue;
@@ -213,7 +211,7 @@ fn lines_leave_the_rows_that_stand() {
                 assert_eq!(did, WAITS, "{line}");
                 left = after;
             }
-            assert_eq!(Row::of(row_of(&*left, talker)), Row::of(row));
+            assert_eq!(Row::of(row_of(&*left, system)), Row::of(row));
         }
     }
     println!("{stand} rows stand, {empty} do not");

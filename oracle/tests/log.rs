@@ -106,18 +106,10 @@ fn systems_in_turn_keep_their_runs() -> Checked {
     prints(log, "lines 4 blank 0 accepted 4 refused 0 groups 2")
 }
 
-/// BD and GB are one system, and each has its run.
 #[test]
-fn talkers_in_turn_keep_their_runs() -> Checked {
-    let log = log_of(&[
-        "BDGSV,2,1,02,01,,,",
-        "GBGSV,2,1,02,11,,,",
-        "BDGSV,2,2,02,02,,,",
-        "GBGSV,2,2,02,12,,,",
-    ]);
-    prints(log, "lines 4 blank 0 accepted 4 refused 0 groups 2")?;
+fn bd_and_gb_are_one_system() -> Checked {
     let log = log_of(&["BDGSV,2,1,02,01,,,", "GBGSV,2,2,02,02,,,"]);
-    prints(log, "lines 2 blank 0 accepted 2 refused 0 groups 0")
+    prints(log, "lines 2 blank 0 accepted 2 refused 0 groups 1")
 }
 
 /// Two receivers that are clones of each other, on one cable: each list is

@@ -78,23 +78,13 @@ fn groups_by_hand() {
             })
             .collect()
     };
-    // Of one sentence, and of two with another talker between.
+    // Of one sentence, and of two with another system between.
     assert_eq!(groups(&["GPGSV,1,1,01,07,,,"]), [(0, 1, 1, vec![7])]);
     let between = ["GPGSV,2,1,02,07,,,", "GLGSV,1,1,00,", "GPGSV,2,2,02,08,,,"];
     assert_eq!(groups(&between), [(1, 1, 0, vec![]), (2, 2, 2, vec![7, 8])]);
-    // Talkers of one system do not count together, and do not cut each other.
-    let halves = ["BDGSV,2,1,02,07,,,", "GBGSV,2,2,02,08,,,"];
-    assert_eq!(groups(&halves), []);
-    let in_turn = [
-        "BDGSV,2,1,02,07,,,",
-        "GBGSV,2,1,02,17,,,",
-        "BDGSV,2,2,02,08,,,",
-        "GBGSV,2,2,02,18,,,",
-    ];
-    assert_eq!(
-        groups(&in_turn),
-        [(2, 2, 2, vec![7, 8]), (3, 2, 2, vec![17, 18])]
-    );
+    // Talkers of one system count together.
+    let together = ["BDGSV,2,1,02,07,,,", "GBGSV,2,2,02,08,,,"];
+    assert_eq!(groups(&together), [(1, 2, 2, vec![7, 8])]);
     // A refused line and one that is not GSV are not between.
     let refused = [
         "GPGSV,2,1,02,07,,,",
@@ -138,8 +128,8 @@ fn groups_by_hand() {
 mod linked {
     use oracle::{
         answer_of, expected, linked, linked_fresh, linked_gather, linked_row, linked_totals,
-        row_number, row_read, stretches, Answer, Cell, Entry, Gathered, Group, Gsv, Log, Talker,
-        WholeEntry, DONE, ROW_WORDS, TABLE, TALKERS,
+        row_read, stretches, Answer, Cell, Entry, Gathered, Group, Log, WholeEntry, DONE,
+        ROW_WORDS, TABLE,
     };
 
     use super::*;
@@ -176,34 +166,31 @@ mod linked {
 
     /// The groups of our side: at each line where our walk counts one more, it
     /// ends with our answer to that line, and its entries are those of our
-    /// answers to as many lines of its talker.
+    /// answers to as many lines of its system.
     fn our_groups(log: &[u8], counts: &[u64]) -> Vec<(usize, Group)> {
-        let lines = Log::of(log).lines;
-        // Of each line that is GSV its talker too, as our words have it.
-        let ours: Vec<Option<(Talker, Gsv)>> = lines
-            .iter()
-            .map(|line| {
-                let ours = answer_of(&linked(line)).expect("words of an answer");
-                match ours.answer {
-                    Answer::Gsv(record) => Some((ours.exact.talker?, record)),
+        let answer = |line: &[u8]| answer_of(&linked(line)).expect("words of an answer").answer;
+        let ours = Log::with_answers(log, answer);
+        let records = |upto: usize| {
+            ours.answers[..=upto]
+                .iter()
+                .flatten()
+                .filter_map(|answer| match answer {
+                    Answer::Gsv(record) => Some(record),
                     _ => None,
-                }
-            })
-            .collect();
-        let records = |upto: usize| ours[..=upto].iter().flatten();
-        let handed_out = (0..lines.len()).filter(|&line| counts[line + 1] > counts[line]);
+                })
+        };
+        let handed_out = (0..ours.lines.len()).filter(|&line| counts[line + 1] > counts[line]);
         handed_out
             .map(|line| {
-                let (talker, last) = records(line)
+                let last = records(line)
                     .next_back()
                     .expect("a group ends with a record");
                 let mut lists: Vec<_> = records(line)
-                    .filter(|(of, _)| of == talker)
-                    .map(|(_, record)| record.entries.into_iter().flatten())
+                    .filter(|record| record.system == last.system)
+                    .map(|record| record.entries.into_iter().flatten())
                     .collect();
                 let entries = lists.split_off(lists.len() - usize::from(last.sentences));
                 let group = Group {
-                    talker: *talker,
                     system: last.system,
                     sentences: last.sentences,
                     in_view: last.in_view,
@@ -222,16 +209,15 @@ mod linked {
         let mut groups = vec![];
         for (index, line) in lines.iter().enumerate() {
             let did = linked_gather(line, &mut words, &mut table);
-            let Some(Gathered::Group(talker)) = Gathered::of(did) else {
+            let Some(Gathered::Group(system)) = Gathered::of(did) else {
                 continue;
             };
             let mut words = [0; ROW_WORDS];
-            assert_eq!(linked_row(&table, row_number(talker), &mut words), DONE);
-            let (read, system, row) = row_read(&words).expect("the words of a row");
-            assert_eq!((read, row.waits_for), (talker, 0));
+            assert_eq!(linked_row(&table, system as usize, &mut words), DONE);
+            let (read, row) = row_read(&words).expect("the words of a row");
+            assert_eq!((read, row.waits_for), (system, 0));
             let number = |word: u32| u16::try_from(word).expect("a number of a line");
             let group = Group {
-                talker,
                 system,
                 sentences: number(row.sentences),
                 in_view: number(row.in_view),
@@ -266,58 +252,6 @@ mod linked {
         println!("{} logs with {groups} groups", logs.len());
         assert!(groups > 0);
         Ok(())
-    }
-
-    /// Lists of each two talkers and of the three of QZSS, in every order of
-    /// their lines, and of all in some: each talker's list is whole, whatever the
-    /// others send.
-    #[test]
-    fn talkers_interleaved() {
-        let mut orders = 0;
-        for one in TALKERS {
-            for other in TALKERS.into_iter().filter(|&other| other != one) {
-                orders += whole_in_every_order(&[one, other]);
-            }
-        }
-        orders += whole_in_every_order(&[*b"GQ", *b"PQ", *b"QZ"]);
-        for shift in 0..TALKERS.len() {
-            let mut senders = TALKERS.to_vec();
-            senders.rotate_left(shift);
-            let senders = [&senders[..]; 3].concat();
-            assert_eq!(agrees(&lists(&senders), "all talkers"), TALKERS.len());
-            orders += 1;
-        }
-        println!("{orders} orders of lines");
-        // 6! / 3!² of each two, and 9! / 3!³ of the three.
-        assert_eq!(orders, 72 * 20 + 1_680 + 9);
-    }
-
-    /// Runs lists of three lines of these talkers in every order. How many there are.
-    fn whole_in_every_order(talkers: &[Talker]) -> usize {
-        let mut orders: Vec<Vec<Talker>> = vec![vec![]];
-        for _ in 0..3 * talkers.len() {
-            let longer = |order: &Vec<Talker>| {
-                let sent = |talker| order.iter().filter(|&of| of == talker).count();
-                let next = talkers.iter().filter(|&talker| sent(talker) < 3);
-                next.map(|talker| [&order[..], &[*talker]].concat())
-                    .collect::<Vec<_>>()
-            };
-            orders = orders.iter().flat_map(longer).collect();
-        }
-        for senders in &orders {
-            assert_eq!(agrees(&lists(senders), "talkers in turn"), talkers.len());
-        }
-        orders.len()
-    }
-
-    /// A log in which each of the talkers sends the next line of a list of three.
-    fn lists(senders: &[Talker]) -> Vec<u8> {
-        let body = |(at, talker): (usize, &Talker)| {
-            let number = senders[..=at].iter().filter(|&of| of == talker).count();
-            format!("{}GSV,3,{number},9,{at},,,", talker.escape_ascii())
-        };
-        let bodies: Vec<String> = senders.iter().enumerate().map(body).collect();
-        log_of(&bodies.iter().map(String::as_str).collect::<Vec<_>>())
     }
 
     /// What oracle/memcheck runs, where the walks after every line take long.

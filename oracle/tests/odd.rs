@@ -92,8 +92,7 @@ fn told(log: &[u8]) -> String {
             .map(|entry| entry.satellite.to_string())
             .collect();
         told += &format!(
-            "at line {line}: {}, {:?}, {} lines, {} in view: satellites {}\n",
-            group.talker.escape_ascii(),
+            "at line {line}: {:?}, {} lines, {} in view: satellites {}\n",
             group.system,
             group.sentences,
             group.in_view,

@@ -8,7 +8,7 @@ use oracle::{
     answer_of, crate_answer, expected, judge,
     lines::{exhaustive_parts, worked_lines, Batch, Generator},
     row_read, with_checksum, words_of, Answer, Cell, Domain, Exact, Gathered, Ours, OursAnswer,
-    Refusal, Row, System, Words, ABSENT, CELLS, DONE, ROW, ROWS, ROW_WORDS, TABLE, TALKERS, UNDONE,
+    Refusal, Row, System, Words, ABSENT, CELLS, DONE, ROW, ROWS, ROW_WORDS, TABLE, UNDONE,
 };
 
 const RMC: &str = "$GNRMC,101500.25,A,5130.5,N,00006.0,W,4.5,270.0,290224,,,A*5F";
@@ -368,10 +368,10 @@ fn refusals_that_are_written_are_read() {
     }
 }
 
-/// A row of GB with two satellites, of which the second has its number alone.
+/// A row of BeiDou with two satellites, of which the second has its number alone.
 fn row_words() -> Vec<u64> {
     let head: [&[u64]; 3] = [
-        &[71, 66, 4, 3, 2, 11, 2],
+        &[4, 3, 2, 11, 2],
         &[1, 22, 1, 42, 1, 67, 1, 0],
         &[1, 4_294_967_295, 0, 0, 0, 0, 0, 0],
     ];
@@ -397,8 +397,7 @@ fn a_row() {
             cell(u32::MAX, [None; 3]),
         ],
     };
-    let read = (*b"GB", System::Beidou, row.clone());
-    assert_eq!(row_read(&row_words()), Ok(read));
+    assert_eq!(row_read(&row_words()), Ok((System::Beidou, row.clone())));
 
     // The same row in a table, and back.
     let mut words = [9; ROW];
@@ -431,19 +430,19 @@ fn only_its_words_are_a_row() {
 
 #[test]
 fn sizes_of_tables() {
-    assert_eq!((ROWS, ROW, TABLE), (9, 148, 1_332));
-    assert_eq!((CELLS, ROW_WORDS, ABSENT), (36, 295, 4_294_967_295));
+    assert_eq!((ROWS, ROW, TABLE), (6, 148, 888));
+    assert_eq!((CELLS, ROW_WORDS, ABSENT), (36, 293, 4_294_967_295));
 }
 
 #[test]
 fn what_a_line_did() {
-    let did: Vec<Option<Gathered>> = (0..13).map(Gathered::of).collect();
+    let did: Vec<Option<Gathered>> = (0..10).map(Gathered::of).collect();
     let mut expected = vec![
         Some(Gathered::NoGsv),
         Some(Gathered::NoRun),
         Some(Gathered::Waits),
     ];
-    expected.extend(TALKERS.map(|talker| Some(Gathered::Group(talker))));
+    expected.extend(System::ALL.map(|system| Some(Gathered::Group(system))));
     expected.push(None);
     assert_eq!(did, expected);
     assert_eq!(Gathered::of(255), None);
@@ -487,7 +486,7 @@ fn constants_of_the_header() {
         ("NO_GSV", Some(Gathered::NoGsv)),
         ("NO_RUN", Some(Gathered::NoRun)),
         ("WAITS", Some(Gathered::Waits)),
-        ("GROUP", Some(Gathered::Group(*b"GA"))),
+        ("GROUP", Some(Gathered::Group(System::Gps))),
     ] {
         assert_eq!(Gathered::of(of_header(name) as u32), did, "{name}");
     }
@@ -778,8 +777,6 @@ fn is_the_row(read: &[u64], in_table: &[u32]) {
     at_places(
         read,
         &[
-            ("ROW_TALKER", b'G'.into()),
-            ("ROW_TALKER + 1", b'B'.into()),
             ("ROW_SYSTEM", of_header("BEIDOU") as u64),
             ("ROW_SENTENCES", 3),
             ("ROW_WAITS_FOR", 2),
@@ -821,7 +818,7 @@ fn is_the_row(read: &[u64], in_table: &[u32]) {
 #[test]
 fn a_row_by_the_names_of_the_header() {
     let mut in_table = [0; ROW];
-    let (.., row) = row_read(&row_words()).expect("the words of a row");
+    let (_, row) = row_read(&row_words()).expect("the words of a row");
     row.put(&mut in_table);
     is_the_row(&row_words(), &in_table);
 }
@@ -830,16 +827,15 @@ fn a_row_by_the_names_of_the_header() {
 #[test]
 #[cfg(target_arch = "x86_64")]
 fn calls_by_the_names_of_the_header() {
-    use oracle::row_number;
     use proved_nmea::abi;
 
     let is = |answer: u32, name: &str| assert_eq!(answer as usize, of_header(name));
     let mut table = [7; TABLE];
     is(abi::fresh(&mut table), "DONE");
-    let first = with_checksum("GBGSV,3,1,11,22,42,067,00,4294967295,,,");
+    let first = with_checksum("BDGSV,3,1,11,22,42,067,00,4294967295,,,");
     let taken = abi::gather(first.as_bytes(), &mut words(&[]), &mut table);
     is(taken, "WAITS");
-    let row = row_number(*b"GB");
+    let row = of_header("BEIDOU") - 1;
     let mut read = [7; ROW_WORDS];
     is(abi::row(&table, row, &mut read), "DONE");
     is_the_row(&read, &table[row * ROW..][..ROW]);

@@ -18,9 +18,8 @@ fn main() -> Result<(), Box<dyn Error>> {
             })
             .collect();
         println!(
-            "lines {:?}: {} {}, {} in view: {}",
+            "lines {:?}: {}, {} in view: {}",
             group.lines,
-            group.talker,
             group.system,
             group.in_view,
             satellites.join(", ")

@@ -14,13 +14,8 @@ pub const WORDS: usize = 40;
 /// The words of a log's totals.
 pub const TOTALS: usize = 5;
 
-/// The talkers of GSV, each with a row of a table, in the order of the rows.
-pub const TALKERS: [[u8; 2]; 9] = [
-    *b"GA", *b"GP", *b"GL", *b"BD", *b"GB", *b"GI", *b"GQ", *b"PQ", *b"QZ",
-];
-
-/// The rows of a table, one for each talker.
-pub const ROWS: usize = TALKERS.len();
+/// The rows of a table, one for each system.
+pub const ROWS: usize = 6;
 
 /// The words of a row where it stands in its table.
 pub const ROW: usize = 148;
@@ -29,7 +24,7 @@ pub const ROW: usize = 148;
 pub const TABLE: usize = ROWS * ROW;
 
 /// The words of a row that is read.
-pub const ROW_WORDS: usize = 295;
+pub const ROW_WORDS: usize = 293;
 
 /// What [`gather`] answers to a line that is no accepted GSV line.
 pub const NO_GSV: u32 = 0;
@@ -87,7 +82,7 @@ pub fn walk(log: &[u8], totals: &mut [u64]) -> u32 {
     unsafe { c::nmea_walk(log.as_ptr(), log.len(), totals.as_mut_ptr(), totals.len()) }
 }
 
-/// Makes a table of 1332 words fresh: no run stands in it. [`UNDONE`] where it has another length.
+/// Makes a table of 888 words fresh: no run stands in it. [`UNDONE`] where it has another length.
 pub fn fresh(table: &mut [u32]) -> u32 {
     // SAFETY: as above, for the table's words.
     unsafe { c::nmea_fresh(table.as_mut_ptr(), table.len()) }
@@ -95,7 +90,7 @@ pub fn fresh(table: &mut [u32]) -> u32 {
 
 /// Takes a log's next line: its whole answer into the first 40 words, and what it does to the table: [`NO_GSV`],
 /// [`NO_RUN`], [`WAITS`], or [`GROUP`] and the row's number, and that row is a group. [`UNDONE`] where there are fewer
-/// words, or the table has not 1332.
+/// words, or the table has not 888.
 pub fn gather(line: &[u8], words: &mut [u64], table: &mut [u32]) -> u32 {
     // SAFETY: as above, for the line, the words and the table, of which no two overlap.
     unsafe {
@@ -110,7 +105,7 @@ pub fn gather(line: &[u8], words: &mut [u64], table: &mut [u32]) -> u32 {
     }
 }
 
-/// Reads a row of a table into the first 295 words. [`UNDONE`] where there are fewer words, the table has not 1332 or no
+/// Reads a row of a table into the first 293 words. [`UNDONE`] where there are fewer words, the table has not 888 or no
 /// such row, or the row's count is over 36.
 pub fn row(table: &[u32], row: usize, words: &mut [u64]) -> u32 {
     // SAFETY: as above; the table is read alone.

@@ -1,20 +1,16 @@
 use crate::{
     abi::{self, ROW_WORDS},
-    places::{
-        ENTRY_WORDS, ROW_COUNT, ROW_ENTRIES, ROW_SENTENCES, ROW_SYSTEM, ROW_TALKER, ROW_VIEW,
-    },
+    places::{ENTRY_WORDS, ROW_COUNT, ROW_ENTRIES, ROW_SENTENCES, ROW_SYSTEM, ROW_VIEW},
     words::{Unfit, Words},
-    Entry, System, Talker,
+    Entry, System,
 };
 
-/// The satellites that one talker has in view: a whole list, from sentences
+/// The satellites that one system has in view: a whole list, from sentences
 /// that stood in the log complete and in order. Proved code puts it together.
 #[derive(Clone, Debug, PartialEq, Eq, Hash)]
 #[non_exhaustive]
 pub struct Group {
-    /// Who sent its sentences: one of [`abi::TALKERS`].
-    pub talker: Talker,
-    /// The system that the talker names. Another talker of it has its own lists.
+    /// The system; its talkers count together.
     pub system: System,
     /// How many sentences the list had, 1 to 9.
     pub sentences: u16,
@@ -36,7 +32,7 @@ impl Group {
     /// The group that a row of the table is; the lines are those of its sentences, from the first on.
     pub(crate) fn of(table: &[u32], row: usize, lines: &[u64]) -> Result<Self, Unfit> {
         let mut words = [0; ROW_WORDS];
-        // Undone it is only for a row that no line completed, and then the talker is unfit.
+        // Undone it is only for a row that no line completed, and then the system is unfit.
         abi::row(table, row, &mut words);
         let words = Words(&words);
         let sentences = words.number(ROW_SENTENCES)?;
@@ -46,7 +42,6 @@ impl Group {
         }
         let entries = (0..count).map(|i| words.part(ROW_ENTRIES + i * ENTRY_WORDS, Entry::of));
         Ok(Group {
-            talker: Talker::of(&words, ROW_TALKER)?,
             system: System::of(&words, ROW_SYSTEM)?,
             sentences,
             in_view: words.number(ROW_VIEW)?,

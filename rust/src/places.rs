@@ -123,12 +123,11 @@ named! {
     TOTALS_REFUSED: usize = 3;
     TOTALS_GROUPS: usize = 4;
 
-    ROW_TALKER: usize = 0;
-    ROW_SYSTEM: usize = 2;
-    ROW_SENTENCES: usize = 3;
-    ROW_VIEW: usize = 5;
-    ROW_COUNT: usize = 6;
-    ROW_ENTRIES: usize = 7;
+    ROW_SYSTEM: usize = 0;
+    ROW_SENTENCES: usize = 1;
+    ROW_VIEW: usize = 3;
+    ROW_COUNT: usize = 4;
+    ROW_ENTRIES: usize = 5;
 }
 
 #[test]

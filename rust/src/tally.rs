@@ -2,10 +2,10 @@ use std::fmt;
 
 use crate::{
     abi::{self, GROUP, NO_GSV, TABLE, WAITS, WORDS},
-    places::{GGA, GLL, GSA, GSV, GSV_NUMBER, KIND, OTHER, REFUSED, RMC, TALKER, VTG},
+    places::{GGA, GLL, GSA, GSV, GSV_NUMBER, GSV_SYSTEM, KIND, OTHER, REFUSED, RMC, VTG},
     sentence,
     words::{proved, Unfit, Words},
-    Group, Refusal, Sentence, Talker, Totals,
+    Group, Refusal, Sentence, Totals,
 };
 
 /// Takes a log of any size, line by line: each line's answer, and the group of
@@ -156,11 +156,10 @@ impl Tally {
     /// Keeps the number of the line whose sentence is the last of its row's run.
     fn place(&mut self) -> Result<(), Unfit> {
         let words = Words(&self.words);
-        let talker = Talker::of(&words, TALKER)?.bytes();
-        let row = abi::TALKERS.iter().position(|&letters| letters == talker);
-        let row = row.ok_or_else(|| words.unfit(TALKER))?;
+        let system: usize = words.number(GSV_SYSTEM)?;
         let number: usize = words.number(GSV_NUMBER)?;
-        let place = self.lines[row].get_mut(number.wrapping_sub(1));
+        let row = self.lines.get_mut(system.wrapping_sub(1));
+        let place = row.and_then(|row| row.get_mut(number.wrapping_sub(1)));
         *place.ok_or_else(|| words.unfit(GSV_NUMBER))? = self.totals.lines;
         Ok(())
     }

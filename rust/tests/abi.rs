@@ -5,11 +5,8 @@ mod common;
 use common::{with_checksum, worked_log, GGA, GLL, GSV_1, GSV_2, GSV_3, VTG};
 use proved_nmea::abi::{
     answer, fresh, gather, row, walk, DONE, GROUP, NO_GSV, NO_RUN, ROW, ROWS, ROW_WORDS, TABLE,
-    TALKERS, TOTALS, UNDONE, WAITS, WORDS,
+    TOTALS, UNDONE, WAITS, WORDS,
 };
-
-/// Where the row of GP begins.
-const GP: usize = ROW;
 
 #[test]
 fn words_after_the_answer_stay() {
@@ -90,7 +87,12 @@ fn words_of_gga_gll_and_vtg() {
         b'N'.into(),
         51.50833333333333f64.to_bits(),
     ];
-    let west = [1, 6_000_000_000, b'W'.into(), (-0.1f64).to_bits()];
+    let west = [
+        1,
+        6_000_000_000,
+        b'W'.into(),
+        (-0.1f64).to_bits(),
+    ];
     let gll = expected(
         7,
         b"GP",
@@ -210,9 +212,8 @@ fn lines_of_a_group() {
     fresh(&mut table);
     let mut words = [7; WORDS + 1];
     assert_eq!(gather(GSV_1.as_bytes(), &mut words, &mut table), WAITS);
-    assert_eq!(table[GP..][..8], [3, 2, 11, 4, 3, 3, 111, 0]);
-    let others = table[..GP].iter().chain(&table[GP + ROW..]);
-    assert!(others.into_iter().all(|&word| word == 0));
+    assert_eq!(table[..8], [3, 2, 11, 4, 3, 3, 111, 0]);
+    assert_eq!(table[ROW..], [0; TABLE - ROW]);
     assert_eq!(words[WORDS], 7);
     let mut alone = [0; WORDS];
     answer(GSV_1.as_bytes(), &mut alone);
@@ -232,11 +233,11 @@ fn lines_of_a_group() {
     assert_eq!(table, before);
 
     assert_eq!(gather(GSV_2.as_bytes(), &mut words, &mut table), WAITS);
-    assert_eq!(gather(GSV_3.as_bytes(), &mut words, &mut table), GROUP + 1);
-    assert_eq!(table[GP..][..4], [3, 0, 11, 11]);
+    assert_eq!(gather(GSV_3.as_bytes(), &mut words, &mut table), GROUP);
+    assert_eq!(table[..4], [3, 0, 11, 11]);
     assert_eq!(gather(GSV_3.as_bytes(), &mut words, &mut table), NO_RUN);
-    for (row, talker) in (0..).zip(TALKERS) {
-        let line = with_checksum(&format!("{}GSV,1,1,00,", talker.escape_ascii()));
+    for (body, row) in [("QZGSV,1,1,00,", 4), ("GIGSV,1,1,00,", 5)] {
+        let line = with_checksum(body);
         let did = gather(line.as_bytes(), &mut words, &mut table);
         assert_eq!(did, GROUP + row, "{line}");
     }
@@ -247,13 +248,13 @@ fn a_row_that_is_read() {
     let mut table = [0; TABLE];
     let mut words = [0; WORDS];
     let line = with_checksum("GLGSV,1,1,02,65,,,,66,1,,40");
-    assert_eq!(gather(line.as_bytes(), &mut words, &mut table), GROUP + 2);
+    assert_eq!(gather(line.as_bytes(), &mut words, &mut table), GROUP + 1);
     let mut read = [7; ROW_WORDS + 1];
-    assert_eq!(row(&table, 2, &mut read), DONE);
-    assert_eq!(read[..7], [b'G'.into(), b'L'.into(), 2, 1, 0, 2, 2]);
-    assert_eq!(read[7..15], [1, 65, 0, 0, 0, 0, 0, 0]);
-    assert_eq!(read[15..23], [1, 66, 1, 1, 0, 0, 1, 40]);
-    assert_eq!(read[23..ROW_WORDS], [0; ROW_WORDS - 23]);
+    assert_eq!(row(&table, 1, &mut read), DONE);
+    assert_eq!(read[..5], [2, 1, 0, 2, 2]);
+    assert_eq!(read[5..13], [1, 65, 0, 0, 0, 0, 0, 0]);
+    assert_eq!(read[13..21], [1, 66, 1, 1, 0, 0, 1, 40]);
+    assert_eq!(read[21..ROW_WORDS], [0; ROW_WORDS - 21]);
     assert_eq!(read[ROW_WORDS], 7);
 }
 
@@ -275,7 +276,7 @@ fn what_is_too_short_is_left_alone() {
     for (table, at, count) in [
         (&[0; TABLE][..], 0, ROW_WORDS - 1),
         (&[0; TABLE - 1], 0, ROW_WORDS),
-        (&[0; TABLE], ROWS, ROW_WORDS),
+        (&[0; TABLE], 6, ROW_WORDS),
         (&[0; TABLE], usize::MAX, ROW_WORDS),
         (&over, 0, ROW_WORDS),
     ] {

@@ -17,7 +17,7 @@ fn prints(name: &str, log: &str) -> String {
 fn groups() {
     let log = "$GPGSV,2,1,05,11,11,101,30,12,21,111,31,13,31,121,32,14,41,131,33*7F\n\
                $GPGSV,2,2,05,05,50,140,*49\n";
-    let expected = "lines [1, 2]: GP GPS, 5 in view: 11 at 30 dB-Hz, 12 at 31 dB-Hz, \
+    let expected = "lines [1, 2]: GPS, 5 in view: 11 at 30 dB-Hz, 12 at 31 dB-Hz, \
                     13 at 32 dB-Hz, 14 at 33 dB-Hz, 5 not tracked\n";
     assert_eq!(prints("groups", log), expected);
 }

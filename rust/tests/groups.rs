@@ -7,14 +7,11 @@ use std::fs;
 use common::{
     corpus,
     gatherer::{gathered, gsv_lines, Handed},
-    held, letters, log_of,
+    held, log_of,
     logs::{damaged, generated},
     worked_log, Random, GSV_1, GSV_2, GSV_3, WORKED_TOTALS,
 };
-use proved_nmea::{
-    abi::{ROWS, TALKERS},
-    Entry, Gsv, System, Talker,
-};
+use proved_nmea::{Entry, Gsv, System};
 
 /// The longest log that the walk takes.
 const LONGEST: usize = 65_536;
@@ -37,8 +34,8 @@ fn satellites(group: &Handed) -> Vec<u32> {
 }
 
 /// The group that the last of these lines completes, by 01's words: n accepted
-/// GSV lines of one talker numbered 1 to n, n from 1 to 9, with equal n and
-/// equal in-view count, and no other of that talker between them.
+/// GSV lines of one system numbered 1 to n, n from 1 to 9, with equal n and
+/// equal in-view count, and no other of that system between them.
 fn group_at_the_end(records: &[(u64, Gsv)]) -> Option<Handed> {
     let (_, last) = records.last()?;
     let n = last.sentences;
@@ -47,7 +44,7 @@ fn group_at_the_end(records: &[(u64, Gsv)]) -> Option<Handed> {
     }
     let own: Vec<&(u64, Gsv)> = records
         .iter()
-        .filter(|(_, record)| record.talker == last.talker)
+        .filter(|(_, record)| record.system == last.system)
         .collect();
     let run = &own[own.len().checked_sub(n.into())?..];
     let fits = (1..).zip(run).all(|(number, (_, record))| {
@@ -55,7 +52,6 @@ fn group_at_the_end(records: &[(u64, Gsv)]) -> Option<Handed> {
     });
     fits.then(|| Handed {
         lines: run.iter().map(|(at, _)| *at).collect(),
-        talker: last.talker,
         system: last.system,
         sentences: n,
         in_view: last.in_view,
@@ -83,8 +79,8 @@ fn the_worked_group() {
     };
     assert_eq!(group.lines, [1, 2, 3]);
     assert_eq!(
-        (group.talker, group.system, group.sentences, group.in_view),
-        (letters(b"GP"), System::Gps, 3, 11)
+        (group.system, group.sentences, group.in_view),
+        (System::Gps, 3, 11)
     );
     assert_eq!(satellites(group), [3, 4, 6, 13, 14, 16, 18, 19, 22, 24, 27]);
     let last = Entry {
@@ -179,64 +175,13 @@ fn systems_in_turn_keep_their_runs() {
 }
 
 #[test]
-fn talkers_of_one_system_keep_their_runs() {
-    let beidou = [
-        "BDGSV,2,1,05,01,,,",
-        "GBGSV,2,1,05,11,,,",
-        "BDGSV,2,2,05,02,,,",
-        "GBGSV,2,2,05,12,,,",
-    ];
-    let [bd, gb] = &handed(&beidou)[..] else {
-        panic!("two groups");
-    };
-    assert_eq!((bd.talker, bd.system), (letters(b"BD"), System::BeiDou));
-    assert_eq!((gb.talker, gb.system), (letters(b"GB"), System::BeiDou));
-    assert_eq!((&bd.lines[..], satellites(bd)), (&[1, 3][..], vec![1, 2]));
-    assert_eq!((&gb.lines[..], satellites(gb)), (&[2, 4][..], vec![11, 12]));
-    // The three of QZSS, one's list inside another's.
-    let qzss = [
-        "GQGSV,3,1,02,1,,,",
-        "PQGSV,2,1,02,21,,,",
-        "QZGSV,1,1,02,31,,,",
-        "GQGSV,3,2,02,2,,,",
-        "PQGSV,2,2,02,22,,,",
-        "GQGSV,3,3,02,3,,,",
-    ];
-    let lists: Vec<(String, Vec<u32>)> = handed(&qzss)
-        .iter()
-        .inspect(|group| assert_eq!(group.system, System::Qzss))
-        .map(|group| (group.talker.to_string(), satellites(group)))
-        .collect();
-    let expected = [
-        ("QZ", vec![31]),
-        ("PQ", vec![21, 22]),
-        ("GQ", vec![1, 2, 3]),
-    ];
-    assert_eq!(lists, expected.map(|(talker, list)| (talker.into(), list)));
-    // What one of them begins the other does not end.
-    assert_eq!(groups(&["BDGSV,2,1,02,01,,,", "GBGSV,2,2,02,02,,,"]), 0);
-}
-
-/// Each row's talker, and the lists of all nine at once.
-#[test]
-fn all_talkers_interleaved() {
-    let talkers = TALKERS.map(|talker| letters(&talker));
-    let sentence =
-        |number: u32| move |talker: &Talker| format!("{talker}GSV,2,{number},2,{number},,,");
-    let bodies: Vec<String> = talkers
-        .iter()
-        .map(sentence(1))
-        .chain(talkers.iter().map(sentence(2)))
-        .collect();
-    let bodies: Vec<&str> = bodies.iter().map(String::as_str).collect();
-    let groups = handed(&bodies);
-    assert_eq!(groups.len(), ROWS);
-    for (at, group) in groups.iter().enumerate() {
-        let first = at as u64 + 1;
-        assert_eq!(group.talker, talkers[at]);
-        assert_eq!(group.lines, [first, first + ROWS as u64]);
-        assert_eq!(satellites(group), [1, 2]);
-    }
+fn talkers_of_one_system_count_together() {
+    assert_eq!(groups(&["BDGSV,2,1,02,01,,,", "GBGSV,2,2,02,02,,,"]), 1);
+    let qzss = ["GQGSV,3,1,02,", "PQGSV,3,2,02,", "QZGSV,3,3,02,"];
+    assert_eq!(groups(&qzss), 1);
+    // A clone's line between them, by its other name, breaks the run.
+    let cut = ["BDGSV,2,1,02,", "GBGSV,2,1,03,", "BDGSV,2,2,02,"];
+    assert_eq!(groups(&cut), 0);
 }
 
 #[test]

@@ -371,7 +371,7 @@ fn a_pipe_that_stays_open() {
     send(",,*33\n");
     assert_eq!(next(), "-:2: refused 6 Checksum (calculated 32, found 33)");
     send("$GPGSV,1,1,00,*55\n");
-    assert_eq!(next(), "-:3: group GP GPS sentences 1 in view 0 satellites");
+    assert_eq!(next(), "-:3: group GPS sentences 1 in view 0 satellites");
     send("x");
     drop(input);
     assert_eq!(next(), "-:4: refused 4 Syntax");
@@ -383,7 +383,7 @@ fn a_pipe_that_stays_open() {
 #[test]
 fn two_receivers_interleaved() {
     let ran = run_on(&["--groups"], TWO_RECEIVERS);
-    let expected = "-:2,3: group GP GPS sentences 2 in view 5 satellites \
+    let expected = "-:2,3: group GPS sentences 2 in view 5 satellites \
                     11 (11 101 30) 12 (21 111 31) 13 (31 121 32) 14 (41 131 33) 5 (50 140 44)\n\
                     lines 4 blank 0 accepted 4 refused 0 groups 1\n";
     assert_eq!(ran.out, expected);
@@ -396,10 +396,10 @@ fn groups_with_their_lines() {
     let log = log + &with_checksum("QZGSV,1,1,02,193,,,,194,5,,7");
     let ran = run_on(&["--groups"], log.as_bytes());
     let expected = "-:1: refused 4 Syntax\n\
-         -:2,3,5: group GP GPS sentences 3 in view 11 satellites \
+         -:2,3,5: group GPS sentences 3 in view 11 satellites \
          3 (3 111 0) 4 (15 270 0) 6 (1 10 0) 13 (6 292 0) 14 (25 170 0) 16 (57 208 39) \
          18 (67 296 40) 19 (40 246 0) 22 (42 67 42) 24 (14 311 43) 27 (5 244 0)\n\
-         -:6: group QZ QZSS sentences 1 in view 2 satellites 193 (- - -) 194 (5 - 7)\n\
+         -:6: group QZSS sentences 1 in view 2 satellites 193 (- - -) 194 (5 - 7)\n\
          lines 6 blank 1 accepted 4 refused 1 groups 2\n";
     assert_eq!(ran.out, expected);
 }
@@ -552,7 +552,7 @@ fn objects_of_each_kind() {
         line("gsa", 3, &gsa),
         line("gsv", 4, &gsv),
         format!(
-            r#"{{"kind":"group","file":"-","lines":[4],"talker":"BD","system":"BeiDou","sentences":1,"in_view":2,{satellites}}}"#
+            r#"{{"kind":"group","file":"-","lines":[4],"system":"BeiDou","sentences":1,"in_view":2,{satellites}}}"#
         ),
         line(
             "other",

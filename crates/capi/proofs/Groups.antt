@@ -1,4 +1,4 @@
--- DEMAND 3, of a caller in C: `nmea_gather` on each line of any list, from a fresh table, answers 3 and a row exactly where the definition hands
+-- DEMAND 3, of a caller in C: `nmea_gather` on each line of any list, from a fresh table, answers 4 and a row exactly where the definition hands
 -- out a group of that row, and `nmea_row` then has the group's words. Assumes nothing.
 use Rattle.std.proofs.Common.{◌≡◌, ℕ, ◌+◌, ◌-◌, ◌*◌, ◌↔◌, List, [], ◌∷◌, ◌++◌, length, get_or, take, sym, refl, ap, ◌∙◌, arith}
 use mathlib.Core.Option.{Option, none, some, none-ne-some}
@@ -6,9 +6,7 @@ use lib.ListN.{get_or-map}
 use Rattle.groups.specs.Log.{Group, Handed}
 use Rattle.groups.specs.Group.{HandedOut}
 use Rattle.gsv.specs.Gsv.{Satellite, GsvSentence}
-use Rattle.gsv.specs.Talker.{Talker, letters_of, system_of, system_number}
-use Rattle.rows.specs.Key.{key_of, talker_in}
-use Rattle.rows.proofs.Keys.{row-back}
+use Rattle.rows.specs.Key.{key_of}
 use Rattle.answer.specs.Sentence.{answer}
 use Rattle.gather.specs.Words.{sats_from, group_of}
 use Rattle.gather.specs.Table.{fresh_table, row_of}
@@ -22,8 +20,8 @@ use Rattle.fed.specs.Seen.{seen_of, handed_in, given_by, given_at}
 use Rattle.fed.proofs.Accepted.{some-same}
 use Rattle.fed.proofs.Handing.{map-take, hands-list}
 use Rattle.logs.proofs.Quiet.{blank-or-read}
-use Rattle.words.specs.Part.{zeros, padded}
-use Rattle.capi.specs.Lend.{code, line_code, head_words, row_room, entries_words, row_read}
+use Rattle.words.specs.Part.{zeros}
+use Rattle.capi.specs.Lend.{code, line_code, row_room, entries_words, row_read}
 
 -- what stands in the row that a number names
 abbrev pub handed_at : ℕ → List ℕ → Handed Satellite
@@ -77,19 +75,13 @@ module _ (ls : List (List ℕ)) (i : ℕ) where
       (λ q. d.0 (sym e ∙ c.0 q), λ q. c.1 (e ∙ d.1 q))
 
 -- the words of a group, with the number that is waited for
-abbrev pub group_words : Talker → ℕ → Group Satellite → List ℕ
-group_words t next p =
-    padded 2 (letters_of t)
-    ++ (system_number (system_of t) ∷ p.n ∷ next ∷ p.view ∷ length p.sats ∷ [])
-    ++ (entries_words p.sats ++ zeros (row_room - (head_words + length p.sats * 8)))
+abbrev pub group_words : ℕ → ℕ → Group Satellite → List ℕ
+group_words κ next p =
+    (κ + 1) ∷ p.n ∷ next ∷ p.view ∷ length p.sats ∷ (entries_words p.sats ++ zeros (row_room - (5 + length p.sats * 8)))
 
 -- THE THEOREM, of a row that is read
-pub row-group : (t : Talker) (ws : List ℕ) → row_read t ws ≡ group_words t (get_or ws 1 0) (group_of ws)
-row-group t ws =
+pub row-group : (κ : ℕ) (ws : List ℕ) → row_read κ ws ≡ group_words κ (get_or ws 1 0) (group_of ws)
+row-group κ ws =
     ap
-    (λ (m : ℕ). padded 2 (letters_of t) ++ (system_number (system_of t) ∷ get_or ws 0 0 ∷ get_or ws 1 0 ∷ get_or ws 2 0 ∷ m ∷ []) ++ (entries_words (sats_from 0 (get_or ws 3 0) ws) ++ zeros (row_room - (head_words + m * 8))))
+    (λ (m : ℕ). (κ + 1) ∷ get_or ws 0 0 ∷ get_or ws 1 0 ∷ get_or ws 2 0 ∷ m ∷ (entries_words (sats_from 0 (get_or ws 3 0) ws) ++ zeros (row_room - (5 + m * 8))))
     (sym (sats-long 0 (get_or ws 3 0) ws))
-
--- and it is read under the talker of the line that completed it
-pub row-named : (s : GsvSentence) (ws : List ℕ) → row_read (talker_in (key_of s)) ws ≡ group_words s.talker (get_or ws 1 0) (group_of ws)
-row-named s ws = row-group (talker_in (key_of s)) ws ∙ ap (λ (t : Talker). group_words t (get_or ws 1 0) (group_of ws)) (row-back s.talker)

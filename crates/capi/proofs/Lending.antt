@@ -5,9 +5,9 @@ use borrow.Author.Tests.{lt-leb}
 use lib.ListN.{length-replicate}
 use lib.Seq.{sets, sets-eq}
 use Rattle.gsv.specs.Gsv.{Satellite}
-use Rattle.gsv.specs.Talker.{Talker, letters_of, system_of, system_number}
+use Rattle.gsv.specs.Talker.{system_number}
 use Rattle.answer.specs.Sentence.{Answer, is_rmc, is_gsa, is_gsv, is_gga, is_gll, is_vtg, is_other, is_refused, answer}
-use Rattle.rows.specs.Key.{source_from, row_from, row_count, talker_in}
+use Rattle.rows.specs.Key.{Source, source_from, row_from, row_count}
 use Rattle.gather.specs.Words.{cell_count, number_of, sat_at, sats_from}
 use Rattle.gather.specs.Table.{table_words, fresh_table, row_of}
 use Rattle.gather.specs.declared.line.Outcome.{Outcome}
@@ -15,22 +15,27 @@ use Rattle.gather.specs.declared.line.Outcome.TheVariants.{Complete}
 use Rattle.text.proofs.Stores.{behind, three, four}
 use Rattle.gather.proofs.Cells.{sats-append}
 use Rattle.gather.proofs.Quick.{sats-long}
+use Rattle.gather.proofs.Tables.{number-within}
 use Rattle.fed.specs.Line.{gathers}
 use Rattle.intake.specs.Brief.{Brief, accepted, gsv_line, refusal, brief_of, gsv_in}
 use Rattle.intake.specs.Answer.{brief, outcome_of, Takes}
 use Rattle.intake.specs.declared.Taken.{Taken}
 use Rattle.intake.specs.declared.Taken.TheVariants.{Accepted, Gsv, Refused}
-use Rattle.words.specs.Part.{zeros, padded, option_words}
+use Rattle.words.specs.Part.{zeros, option_words}
 use Rattle.words.specs.Gsv.{entry_words}
 use Rattle.words.specs.Words.{word_count, words}
-use Rattle.words.proofs.Lengths.{padded-long, option-two, entry-eight}
+use Rattle.words.proofs.Lengths.{option-two, entry-eight}
 use Rattle.words.proofs.Stores.{one-zero as next-zero}
 use Rattle.capi.specs.Answer.{done, undone}
-use Rattle.capi.specs.Lend.{Freshened, code, line_code, takes, GatheredLine, head_words, row_room, row_head, entries_words, row_read, reads, RowRead}
+use Rattle.capi.specs.Lend.{Freshened, code, line_code, takes, GatheredLine, row_room, row_head, entries_words, row_read, reads, RowRead}
 use Rattle.capi.specs.Code.{taken_code, ReadAs}
 
 pub last-code : (o : Outcome) (k : ℕ) → o ≡ Complete → 3 + k ≡ code o k
 last-code o k e = sym (ap (λ (o : Outcome). code o k) e)
+
+-- the number of a row's system is that of GSV's word 3
+pub row-system : (s : Source) → row_from s + 1 ≡ system_number s.system
+row-system s = let h = number-within s.system in omega (arith, h.0)
 
 -- what a line that was taken did, by its answer
 abbrev code_in : Brief → Outcome → ℕ
@@ -91,7 +96,7 @@ module _ (t : List ℕ) (κ : ℕ) (out : List ℕ) where
   unread : reads t κ out ≡ false → RowRead t κ out out undone
   unread e =
       record {
-        words = sym (ap (λ (b : Bool). cond b (row_read (talker_in κ) (row_of t κ) ++ drop row_room out) out) e);
+        words = sym (ap (λ (b : Bool). cond b (row_read κ (row_of t κ) ++ drop row_room out) out) e);
         says = sym (ap (λ (b : Bool). cond b done undone) e);
       }
 
@@ -107,15 +112,15 @@ module _ (t : List ℕ) (κ : ℕ) (out : List ℕ) where
   no-such-row h long n =
       unread (λ j. le-leb row_room (length out) h j && (eq-eqb (length t) table_words long j && (le-ltb κ row_count n j && leb (get_or (row_of t κ) 3 0) cell_count)))
 
-  pub row-taken : (ws out' : List ℕ) (who : Talker) (r : ℕ) → row_room ≤ length out → length t ≡ table_words → κ < row_count → ws ≡ row_of t κ
-      → who ≡ talker_in κ → ReadAs ws who out out' r → RowRead t κ out out' r
-  row-taken ws out' who r h long n e w k =
+  pub row-taken : (ws out' : List ℕ) (r : ℕ) → row_room ≤ length out → length t ≡ table_words → κ < row_count → ws ≡ row_of t κ
+      → ReadAs ws κ out out' r → RowRead t κ out out' r
+  row-taken ws out' r h long n e k =
       let b : leb (get_or ws 3 0) cell_count ≡ reads t κ out =
       ap (λ (l : List ℕ). leb (get_or l 3 0) cell_count) e
       ∙ sym (λ j. le-leb row_room (length out) h j && (eq-eqb (length t) table_words long j && (lt-ltb κ row_count n j && leb (get_or (row_of t κ) 3 0) cell_count)))
       in
       record {
-        words = k.words ∙ (λ j. cond (b j) (row_read (w j) (e j) ++ drop row_room out) out);
+        words = k.words ∙ (λ j. cond (b j) (row_read κ (e j) ++ drop row_room out) out);
         says = k.says ∙ (λ j. cond (b j) done undone);
       }
 
@@ -135,9 +140,8 @@ put-known l at x e =
 pub two-long : (l : List ℕ) (i a j b : ℕ) → length (set (set l i a) j b) ≡ length l
 two-long l i a j b = length-set (set l i a) j b ∙ length-set l i a
 
-pub entry-room : (l : List ℕ) (i id k : ℕ) → i < cell_count → row_room ≤ length l → k ≤ 6
-    → head_words + i * 8 + k + 2 ≤ length (set (set l (head_words + i * 8) 1) (head_words + i * 8 + 1) id)
-entry-room l i id k h r f = omega (arith, two-long l (head_words + i * 8) 1 (head_words + i * 8 + 1) id)
+pub entry-room : (l : List ℕ) (i id k : ℕ) → i < cell_count → row_room ≤ length l → k ≤ 6 → 5 + i * 8 + k + 2 ≤ length (set (set l (5 + i * 8) 1) (5 + i * 8 + 1) id)
+entry-room l i id k h r f = omega (arith, two-long l (5 + i * 8) 1 (5 + i * 8 + 1) id)
 
 -- an entry's eight words: two, and three times two
 pub entry-stored : (l a b c d : List ℕ) (to id : ℕ) (e f g : Option ℕ) → a ≡ set (set l to 1) (to + 1) id → b ≡ sets a (to + 2) (option_words e)
@@ -198,11 +202,11 @@ entries-next i ws =
 wide : (i : ℕ) (ws : List ℕ) → length (entries_words (sats_from 0 i ws)) ≡ i * 8
 wide i ws = omega (arith, entries-long (sats_from 0 i ws), sats-long 0 i ws)
 
-pub one-entry : (l m o ws : List ℕ) (i : ℕ) → m ≡ sets l head_words (entries_words (sats_from 0 i ws))
-    → o ≡ sets m (head_words + i * 8) (entry_words (some (sat_at ws i))) → o ≡ sets l head_words (entries_words (sats_from 0 (i + 1) ws))
+pub one-entry : (l m o ws : List ℕ) (i : ℕ) → m ≡ sets l 5 (entries_words (sats_from 0 i ws)) → o ≡ sets m (5 + i * 8) (entry_words (some (sat_at ws i)))
+    → o ≡ sets l 5 (entries_words (sats_from 0 (i + 1) ws))
 one-entry l m o ws i e f =
-    behind l m o (entries_words (sats_from 0 i ws)) (entry_words (some (sat_at ws i))) head_words (head_words + i * 8) e (omega (arith, wide i ws)) f
-    ∙ ap (sets l head_words) (entries-next i ws)
+    behind l m o (entries_words (sats_from 0 i ws)) (entry_words (some (sat_at ws i))) 5 (5 + i * 8) e (omega (arith, wide i ws)) f
+    ∙ ap (sets l 5) (entries-next i ws)
 
 pub one-zero : (l m : List ℕ) (from j : ℕ) → from ≤ j → m ≡ sets l from (zeros (j - from)) → set m j 0 ≡ sets l from (zeros (j + 1 - from))
 one-zero l m from j h e =
@@ -210,35 +214,31 @@ one-zero l m from j h e =
     let y : j - from + 1 ≡ j + 1 - from = omega arith in
     ap (λ (k : ℕ). set m k 0) z ∙ next-zero l m from (j - from) e ∙ ap (λ (n : ℕ). sets l from (zeros n)) y
 
-head-long : (t : Talker) (ws : List ℕ) → length (row_head t ws) ≡ head_words
-head-long t ws = omega (arith, length-append (padded 2 (letters_of t)) (system_number (system_of t) ∷ get_or ws 0 0 ∷ get_or ws 1 0 ∷ get_or ws 2 0 ∷ get_or ws 3 0 ∷ []), padded-long 2 (letters_of t))
-
-module _ (t : Talker) (ws out : List ℕ) (room : row_room ≤ length out) where
-  pub too-many : cell_count < get_or ws 3 0 → ReadAs ws t out out undone
+module _ (κ : ℕ) (ws out : List ℕ) (room : row_room ≤ length out) where
+  pub too-many : cell_count < get_or ws 3 0 → ReadAs ws κ out out undone
   too-many h =
       let e : leb (get_or ws 3 0) cell_count ≡ false = lt-leb (get_or ws 3 0) cell_count h in
       record {
-        words = sym (ap (λ (b : Bool). cond b (row_read t ws ++ drop row_room out) out) e);
+        words = sym (ap (λ (b : Bool). cond b (row_read κ ws ++ drop row_room out) out) e);
         says = sym (ap (λ (b : Bool). cond b done undone) e);
       }
 
-  pub all-read : (a b c : List ℕ) → get_or ws 3 0 ≤ cell_count → a ≡ sets out 0 (row_head t ws) → b ≡ sets a head_words (entries_words (sats_from 0 (get_or ws 3 0) ws))
-      → c ≡ sets b (head_words + get_or ws 3 0 * 8) (zeros (row_room - (head_words + get_or ws 3 0 * 8))) → ReadAs ws t out c done
+  pub all-read : (a b c : List ℕ) → get_or ws 3 0 ≤ cell_count → a ≡ sets out 0 (row_head κ ws) → b ≡ sets a 5 (entries_words (sats_from 0 (get_or ws 3 0) ws))
+      → c ≡ sets b (5 + get_or ws 3 0 * 8) (zeros (row_room - (5 + get_or ws 3 0 * 8))) → ReadAs ws κ out c done
   all-read a b c few ea eb ec =
       let m = get_or ws 3 0 in
       let es = entries_words (sats_from 0 m ws) in
-      let zs = zeros (row_room - (head_words + m * 8)) in
+      let zs = zeros (row_room - (5 + m * 8)) in
       let test : leb m cell_count ≡ true = le-leb m cell_count few in
       let n : length es ≡ m * 8 = wide m ws in
-      let head : length (row_head t ws) ≡ head_words = head-long t ws in
-      let long : 0 + length (row_read t ws) ≡ row_room =
-      omega (arith, head, length-append (row_head t ws) (es ++ zs), length-append es zs, length-replicate {A = ℕ} (row_room - (head_words + m * 8)) 0)
+      let long : 0 + length (row_read κ ws) ≡ row_room =
+      omega (arith, length-append (row_head κ ws) (es ++ zs), length-append es zs, length-replicate {A = ℕ} (row_room - (5 + m * 8)) 0)
       in
       record {
         words =
-            three out a b c (row_head t ws) es zs 0 head_words (head_words + m * 8) ea (omega (arith, head)) eb (omega arith) ec
-            ∙ sets-eq (row_read t ws) out 0 (omega arith)
-            ∙ ap (λ (k : ℕ). row_read t ws ++ drop k out) long
-            ∙ sym (ap (λ (b : Bool). cond b (row_read t ws ++ drop row_room out) out) test);
+            three out a b c (row_head κ ws) es zs 0 5 (5 + m * 8) ea refl eb (omega arith) ec
+            ∙ sets-eq (row_read κ ws) out 0 (omega arith)
+            ∙ ap (λ (k : ℕ). row_read κ ws ++ drop k out) long
+            ∙ sym (ap (λ (b : Bool). cond b (row_read κ ws ++ drop row_room out) out) test);
         says = sym (ap (λ (b : Bool). cond b done undone) test);
       }

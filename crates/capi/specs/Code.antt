@@ -1,6 +1,5 @@
 -- For the code, not for a reader of the scope.
 use Rattle.std.specs.Prelude.{◌≡◌, ℕ, cond, List, ◌++◌, drop, nat_le, slice_index}
-use Rattle.gsv.specs.Talker.{Talker}
 use Rattle.gsv.specs.Answer.{talker}
 use Rattle.rows.specs.Key.{source_from, row_from}
 use Rattle.gather.specs.Words.{cell_count}
@@ -15,7 +14,7 @@ taken_code Accepted = 0
 taken_code (Gsv t h o) = code o (row_from (source_from (talker t)))
 taken_code (Refused r) = 0
 
--- what `nmea_row` writes and answers, of a row's words and talker and where there is room
-pub record ReadAs (ws : List ℕ) (t : Talker) (out out' : List ℕ) (r : ℕ) : Type 0 where
-  pub words : out' ≡ cond (nat_le (slice_index ws 3) cell_count) (row_read t ws ++ drop row_room out) out
+-- what `nmea_row` writes and answers, of a row's words and where there is room
+pub record ReadAs (ws : List ℕ) (κ : ℕ) (out out' : List ℕ) (r : ℕ) : Type 0 where
+  pub words : out' ≡ cond (nat_le (slice_index ws 3) cell_count) (row_read κ ws ++ drop row_room out) out
   pub says : r ≡ cond (nat_le (slice_index ws 3) cell_count) done undone

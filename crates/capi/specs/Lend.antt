@@ -1,17 +1,16 @@
 -- A table that is lent, for C and Rust: made fresh, given a line, and a row of it read.
 use Rattle.std.specs.Prelude.{◌≡◌, ℕ, ◌+◌, ◌-◌, ◌*◌, Bool, cond, ◌&&◌, List, [], ◌∷◌, ◌++◌, length, drop, ◌==◌, nat_le, nat_lt, slice_index}
 use Rattle.std.proofs.Math.Option.{Option, none, some}
-use Rattle.gsv.specs.Talker.{Talker, letters_of, system_of, system_number}
 use Rattle.gsv.specs.Gsv.{Satellite, GsvSentence}
 use Rattle.answer.specs.Sentence.{answer}
-use Rattle.rows.specs.Key.{key_of, row_count, talker_in}
+use Rattle.rows.specs.Key.{key_of, row_count}
 use Rattle.gather.specs.Words.{cell_count, sats_from}
 use Rattle.gather.specs.Table.{table_words, fresh_table, row_of}
 use Rattle.gather.specs.declared.line.Outcome.{Outcome}
 use Rattle.gather.specs.declared.line.Outcome.TheVariants.{NoRow, Nothing, Waiting, Complete}
 use Rattle.fed.specs.Line.{Gathered, gathers}
 use Rattle.intake.specs.Brief.{gsv_in}
-use Rattle.words.specs.Part.{zeros, padded}
+use Rattle.words.specs.Part.{zeros}
 use Rattle.words.specs.Gsv.{entry_words}
 use Rattle.words.specs.Words.{word_count, words}
 use Rattle.capi.specs.Answer.{done, undone}
@@ -45,7 +44,7 @@ pub record GatheredLine (line out out' t t' : List ℕ) (r : ℕ) : Type 0 where
 
 -- the words of a row that is read: its head, and an entry for each cell
 abbrev pub head_words : ℕ
-head_words = 7
+head_words = 5
 
 abbrev pub entry_long : ℕ
 entry_long = 8
@@ -53,19 +52,18 @@ entry_long = 8
 abbrev pub row_room : ℕ
 row_room = head_words + cell_count * entry_long
 
--- 0 to 6: the talker's two letters and its system's number, as in GSV; n, the number waited for, in view, and the count
-abbrev pub row_head : Talker → List ℕ → List ℕ
-row_head t ws =
-    padded 2 (letters_of t) ++ (system_number (system_of t) ∷ slice_index ws 0 ∷ slice_index ws 1 ∷ slice_index ws 2 ∷ slice_index ws 3 ∷ [])
+-- row 0 to 4: the system's number, n, the number waited for, in view, and the count
+abbrev pub row_head : ℕ → List ℕ → List ℕ
+row_head κ ws = (κ + 1) ∷ slice_index ws 0 ∷ slice_index ws 1 ∷ slice_index ws 2 ∷ slice_index ws 3 ∷ []
 
--- 7 and on: entries as in GSV
+-- row 5 and on: entries as in GSV
 abbrev pub entries_words : List Satellite → List ℕ
 entries_words [] = []
 entries_words (s ∷ ss) = entry_words (some s) ++ entries_words ss
 
 -- and 0 behind them
-abbrev pub row_read : Talker → List ℕ → List ℕ
-row_read t ws = row_head t ws ++ (entries_words (sats_from 0 (slice_index ws 3) ws) ++ zeros (row_room - (head_words + slice_index ws 3 * entry_long)))
+abbrev pub row_read : ℕ → List ℕ → List ℕ
+row_read κ ws = row_head κ ws ++ (entries_words (sats_from 0 (slice_index ws 3) ws) ++ zeros (row_room - (head_words + slice_index ws 3 * entry_long)))
 
 -- `nmea_row`: room, a table, a row that it has, and no more entries in it than cells
 abbrev pub reads : List ℕ → ℕ → List ℕ → Bool
@@ -73,5 +71,5 @@ reads t κ out =
     nat_le row_room (length out) && (length t == table_words && (nat_lt κ row_count && nat_le (slice_index (row_of t κ) 3) cell_count))
 
 pub record RowRead (t : List ℕ) (κ : ℕ) (out out' : List ℕ) (r : ℕ) : Type 0 where
-  pub words : out' ≡ cond (reads t κ out) (row_read (talker_in κ) (row_of t κ) ++ drop row_room out) out
+  pub words : out' ≡ cond (reads t κ out) (row_read κ (row_of t κ) ++ drop row_room out) out
   pub says : r ≡ cond (reads t κ out) done undone

@@ -2,36 +2,32 @@
 ghost use Rattle.std.specs.Prelude.{◌≡◌, ◌+◌, ◌-◌, ◌*◌, ◌<◌, ◌≤◌, length};
 ghost use Rattle.std.proofs.Math.Option.{some};
 ghost use Rattle.std.proofs.lemmas.List.Edits.{sets};
-ghost use Rattle.gsv.specs.Answer.{talker as talker_is};
-ghost use Rattle.rows.specs.Key.{row_count, talker_in};
+ghost use Rattle.rows.specs.Key.{row_count};
 ghost use Rattle.gather.specs.Words.{row_words, cell_count, number_of, sat_at, sats_from};
 ghost use Rattle.words.specs.Part.{zeros, option_words};
 ghost use Rattle.words.specs.Gsv.{entry_words};
-ghost use Rattle.capi.specs.Lend.{Freshened, code, GatheredLine, head_words, row_room, row_head, entries_words, RowRead};
+ghost use Rattle.capi.specs.Lend.{Freshened, code, GatheredLine, row_room, row_head, entries_words, RowRead};
 ghost use Rattle.capi.specs.Code.{taken_code, ReadAs};
 
 use crate::{DONE, UNDONE};
 use intake::Taken;
 use gather::lent;
 use gather::line::Outcome;
-use gsv::GsvTalker;
 use words::{ENTRY_WORDS, WORDS};
 
-// Where in the words of a row that is read its talker's two letters stand, their system, n, the number waited for, the in-view count, the
-// count of entries, and an entry for each cell.
-const TALKER: usize = 0;
+// Where in the words of a row that is read its system stands, n, the number waited for, the in-view count, the count of entries, and an
+// entry for each cell.
+const SYSTEM: usize = 0;
 
-const SYSTEM: usize = 2;
+const SENTENCES: usize = 1;
 
-const SENTENCES: usize = 3;
+const WAITS_FOR: usize = 2;
 
-const WAITS_FOR: usize = 4;
+const VIEW: usize = 3;
 
-const VIEW: usize = 5;
+const COUNT: usize = 4;
 
-const COUNT: usize = 6;
-
-const ENTRIES: usize = 7;
+const ENTRIES: usize = 5;
 
 const ROW_WORDS: usize = ENTRIES + lent::CELLS * ENTRY_WORDS;
 
@@ -119,7 +115,7 @@ fn put_option(out: &mut [u64], at: usize, x: u32)
 // The entry in cell i.
 fn put_entry(out: &mut [u64], row: &[u32], i: usize)
     requires { (length row.now ≡ row_words) × (i < cell_count) × (row_room ≤ length out.old) }
-    ensures { out.new ≡ sets out.old (head_words + i * 8) (entry_words (some (sat_at row.now i))) }
+    ensures { out.new ≡ sets out.old (5 + i * 8) (entry_words (some (sat_at row.now i))) }
 {
     let at = lent::HEAD + i * lent::CELL;
     let id = row[at];
@@ -134,16 +130,12 @@ fn put_entry(out: &mut [u64], row: &[u32], i: usize)
     put_option(&mut *out, to + words::SIGNAL, signal);
 }
 
-// A row's talker and system, n, the number waited for, in view and count.
-fn put_head(out: &mut [u64], row: &[u32], talker: GsvTalker)
-    requires { (length row.now ≡ row_words) × (row_room ≤ length out.old) }
-    ensures { out.new ≡ sets out.old 0 (row_head (talker_is talker) row.now) }
+// A row's system, n, the number waited for, in view and count.
+fn put_head(out: &mut [u64], row: &[u32], number: usize)
+    requires { (length row.now ≡ row_words) × (number < row_count) × (row_room ≤ length out.old) }
+    ensures { out.new ≡ sets out.old 0 (row_head number row.now) }
 {
-    let letters = gsv::letters_of(talker);
-    let system = gsv::gnss_type(talker);
-    out[TALKER] = letters.0 as u64;
-    out[TALKER + 1] = letters.1 as u64;
-    out[SYSTEM] = gsv::system_number(system) as u64;
+    out[SYSTEM] = number as u64 + 1;
     out[SENTENCES] = row[lent::N] as u64;
     out[WAITS_FOR] = row[lent::NEXT] as u64;
     out[VIEW] = row[lent::VIEW] as u64;
@@ -153,7 +145,7 @@ fn put_head(out: &mut [u64], row: &[u32], talker: GsvTalker)
 // The entries in the first count of its cells.
 fn put_entries(out: &mut [u64], row: &[u32], count: usize)
     requires { (length row.now ≡ row_words) × (count ≤ cell_count) × (row_room ≤ length out.old) }
-    ensures { out.new ≡ sets out.old head_words (entries_words (sats_from 0 count row.now)) }
+    ensures { out.new ≡ sets out.old 5 (entries_words (sats_from 0 count row.now)) }
 {
     let mut i = 0;
     while i < count {
@@ -175,40 +167,22 @@ fn put_zeros(out: &mut [u64], from: usize)
 }
 
 // The words of a row, where there is room for them.
-fn read_row(row: &[u32], talker: GsvTalker, out: &mut [u64]) -> u32
-    requires { (length row.now ≡ row_words) × (row_room ≤ length out.old) }
-    ensures { ReadAs row.now (talker_is talker) out.old out.new result }
+fn read_row(row: &[u32], number: usize, out: &mut [u64]) -> u32
+    requires { (length row.now ≡ row_words) × (number < row_count) × (row_room ≤ length out.old) }
+    ensures { ReadAs row.now number out.old out.new result }
 {
     let count = row[lent::COUNT] as usize;
     if lent::CELLS < count {
         return UNDONE;
     }
-    put_head(&mut *out, row, talker);
+    put_head(&mut *out, row, number);
     put_entries(&mut *out, row, count);
     put_zeros(&mut *out, ENTRIES + count * ENTRY_WORDS);
     DONE
 }
 
-// The talker that a row is for.
-fn talker_in(row: usize) -> GsvTalker
-    requires { row < row_count }
-    ensures { talker_is result ≡ talker_in row }
-{
-    match row {
-        0 => GsvTalker::Ga,
-        1 => GsvTalker::Gp,
-        2 => GsvTalker::Gl,
-        3 => GsvTalker::Bd,
-        4 => GsvTalker::Gb,
-        5 => GsvTalker::Gi,
-        6 => GsvTalker::Gq,
-        7 => GsvTalker::Pq,
-        _ => GsvTalker::Qz,
-    }
-}
-
-// Reads a row of a table: its talker and system, n, the number waited for, in view, count and 36 entries in the first 295 words. Too few
-// words, a table of another length, a row that it has not, or one with more than 36 entries: 255, and nothing written.
+// Reads a row of a table: its system, n, the number waited for, in view, count and 36 entries in the first 293 words. Too few words, a
+// table of another length, a row that it has not, or one with more than 36 entries: 255, and nothing written.
 #[unsafe(no_mangle)]
 pub extern "C" fn nmea_row(table: &[u32], row: usize, out: &mut [u64]) -> u32
     ensures { RowRead table.now row out.old out.new result × (table.now ≡ table.now) }
@@ -224,5 +198,5 @@ pub extern "C" fn nmea_row(table: &[u32], row: usize, out: &mut [u64]) -> u32
     }
     let at = row * lent::ROW;
     let end = at + lent::ROW;
-    read_row(&table[at..end], talker_in(row), out)
+    read_row(&table[at..end], row, out)
 }

@@ -16,7 +16,6 @@ use Rattle.gsv.specs.Gsv.{Satellite, Head, GsvSentence}
 use Rattle.answer.specs.Sentence.{answer, is_gsv}
 use Rattle.rows.specs.Key.{source_of, key_of, row_count}
 use Rattle.rows.specs.Line.{line_of}
-use Rattle.rows.proofs.Keys.{row-below}
 use Rattle.gather.specs.Heads.{head_line, run_stands, run_meant, run_of, run_after, no_run, bare, head_words, run_at, set_run, Matches}
 use Rattle.gather.specs.Code.{runs_on}
 use Rattle.gather.specs.Put.{told}
@@ -24,7 +23,7 @@ use Rattle.gather.specs.Table.{table_words, fresh_table, table_of, table_after, 
 use Rattle.gather.specs.declared.run.Run.{Run}
 use Rattle.gather.specs.declared.run.RunAfter.{RunAfter}
 use Rattle.gather.proofs.Heads.{before-is}
-use Rattle.gather.proofs.Tables.{table-meaning, table-says, same-words, zero-fresh}
+use Rattle.gather.proofs.Tables.{row-below, table-meaning, table-says, same-words, zero-fresh}
 
 abbrev emptied : Option (List Satellite) → Option (List Satellite)
 emptied none = none

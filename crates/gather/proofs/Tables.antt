@@ -14,11 +14,11 @@ use Rattle.groups.specs.Log.{Gsv, Line, gsv, Group}
 use Rattle.groups.specs.Left.{All}
 use Rattle.groups.specs.Step.{Table, sofar, step, next, fresh, after}
 use Rattle.gsv.specs.Gsv.{Satellite, GsvSentence}
+use Rattle.gsv.specs.Talker.{System, gps, glonass, galileo, beidou, qzss, navic, system_number}
 use Rattle.short.specs.Room.{Written}
 use Rattle.answer.specs.Sentence.{answer, is_gsv}
-use Rattle.rows.specs.Key.{source_of, row_count}
+use Rattle.rows.specs.Key.{Source, source_of, row_from, row_count}
 use Rattle.rows.specs.Line.{line_of}
-use Rattle.rows.proofs.Keys.{row-below}
 use Rattle.gather.specs.Words.{group_of, meant, flat}
 use Rattle.gather.specs.Put.{next_of, written, row_after, told, outcome_of, Put}
 use Rattle.gather.specs.Table.{table_words, row_of, fresh_table, table_of, table_after, said_by, Gathers}
@@ -27,6 +27,18 @@ use Rattle.gather.specs.declared.line.Outcome.{Outcome}
 use Rattle.gather.specs.declared.line.Outcome.TheVariants.{NoRow}
 use Rattle.gather.proofs.Cells.{below, above, inside}
 use Rattle.gather.proofs.Decode.{none-at, put-meaning, put-group}
+
+-- a system's number is one of 1 to 6, so that its row is one of the table's
+pub number-within : (s : System) → (1 ≤ system_number s) × (system_number s ≤ row_count)
+number-within gps = (omega arith, omega arith)
+number-within glonass = (omega arith, omega arith)
+number-within galileo = (omega arith, omega arith)
+number-within beidou = (omega arith, omega arith)
+number-within qzss = (omega arith, omega arith)
+number-within navic = (omega arith, omega arith)
+
+pub row-below : (s : Source) → row_from s < row_count
+row-below s = let h = number-within s.system in omega (arith, h.0, h.1)
 
 -- a line leaves as many words as there were
 pub after-long : (ws : List ℕ) (g : Gsv Satellite) → length (row_after ws g) ≡ length ws

@@ -1,7 +1,7 @@
 -- What each answer of the code says.
-use Rattle.gsv.specs.Answer.{talker}
+use Rattle.gsv.specs.Answer.{gnss}
 use Rattle.rows.specs.Key.{Source}
 use Rattle.gather.specs.declared.table.Source as Code
 
 abbrev pub source : Code.Source → Source
-source s = record { talker = talker s.talker }
+source s = record { system = gnss s.system }

@@ -1,4 +1,4 @@
-// The table: a row for each talker, one behind the other. A line changes its own row, and no other.
+// The table: a row for each system, one behind the other. A line changes its own row, and no other.
 ghost use Rattle.std.specs.Prelude.{◌≡◌};
 ghost use Rattle.gsv.specs.Answer.{talker, gsv_sentence};
 ghost use Rattle.rows.specs.Key.{source_from, row_from};
@@ -8,10 +8,10 @@ ghost use Rattle.gather.specs.Table.{Gathers};
 
 use crate::line::Outcome;
 use crate::{lent, line};
-use gsv::{GsvRecord, GsvTalker};
+use gsv::{GnssType, GsvRecord, GsvTalker};
 
-// How many rows a table has: one for each talker.
-pub const ROWS: usize = 9;
+// How many rows a table has: one for each system.
+pub const ROWS: usize = 6;
 
 // And how many words.
 pub const WORDS: usize = ROWS * lent::ROW;
@@ -19,32 +19,24 @@ pub const WORDS: usize = ROWS * lent::ROW;
 // What a run, and so a group, is gathered from.
 #[derive(Drop)]
 pub struct Source {
-    pub talker: GsvTalker,
+    pub system: GnssType,
 }
 
 // What the lines of a talker are gathered from.
 pub fn source_of(t: GsvTalker) -> Source
     ensures { source result ≡ source_from (talker t) }
 {
-    Source { talker: t }
+    let system = gsv::gnss_type(t);
+    Source { system: system }
 }
 
 // The row of a source.
 pub fn row_of(s: Source) -> usize
     ensures { result ≡ row_from (source s) }
 {
-    let talker = s.talker;
-    match talker {
-        GsvTalker::Ga => 0,
-        GsvTalker::Gp => 1,
-        GsvTalker::Gl => 2,
-        GsvTalker::Bd => 3,
-        GsvTalker::Gb => 4,
-        GsvTalker::Gi => 5,
-        GsvTalker::Gq => 6,
-        GsvTalker::Pq => 7,
-        GsvTalker::Qz => 8,
-    }
+    let system = s.system;
+    let number = gsv::system_number(system);
+    number as usize - 1
 }
 
 // What an accepted GSV line does to the table: only its own row changes.

@@ -56,7 +56,7 @@ module _ (a b m m' : List ℕ) (whole : Whole a) (w : Whole m ⊎ (b ≡ [])) (w
       let y = hands-out log' i (omega (arith, says-count a b whole m' w')) h in
       (λ g. y.1 (same-before a b whole m m' w w' i h k (x.0 g)), λ g. x.1 (same-before a b whole m' m w' w i h k (y.0 g)))
 
-  -- "each talker's groups are the same from its next accepted GSV numbered 1", which stands at j of b
+  -- "each system's groups are the same from its next accepted GSV numbered 1", which stands at j of b
   pub groups-after : (j : ℕ) (g : Gsv Satellite) → get_or (told b) j other ≡ gsv g → g.number ≡ 1
       → (i : ℕ) → j ≤ i → i < length (says b) → (h : Handed Satellite) → h.key ≡ g.key
       → Gives (step_after (from + i) log) h ↔ Gives (step_after (from' + i) log') h

@@ -12,7 +12,7 @@ use Rattle.frame.specs.Types.{types, alike, listed}
 use Rattle.frame.specs.Checksum.{checksum_from}
 use Rattle.frame.specs.Digits.{digit, hex}
 use Rattle.frame.specs.Frame.{Parts, accepted, taken, known, sentence_type, checksum_field, sentence, sized, frame}
-use Rattle.gsv.specs.Talker.{gp, row_for as row_of}
+use Rattle.gsv.specs.Talker.{row_for as row_of}
 use Rattle.gsv.specs.Gsv.{Satellite, gsv as gsv_data, entry, counted, cell, closing}
 use Rattle.answer.specs.Sentence.{formatter_of, dispatch, answer, is_refused}
 use Rattle.pack.specs.Cut.{more}
@@ -22,7 +22,6 @@ use Rattle.groups.specs.Log.{Gsv, gsv, other, Handed}
 use Rattle.groups.specs.Group.{HandedOut}
 use Rattle.lines.specs.Lines.{stretches, trim, lines, Whole}
 use Rattle.lines.specs.Places.{is_place, stretch, rest, line_at, next_place}
-use Rattle.rows.specs.Key.{row_number}
 use Rattle.gather.specs.declared.line.Outcome.TheVariants.{Nothing}
 use Rattle.fed.specs.Line.{read}
 use Rattle.logs.specs.Step.{step_at}
@@ -54,7 +53,7 @@ abbrev satellite : ℕ → Satellite
 satellite n = record { id = n; elevation = none; azimuth = none; signal = none }
 
 abbrev group : ℕ → ℕ → Handed Satellite
-group a b = record { key = row_number gp; group = record { n = 2; view = 2; sats = satellite a ∷ satellite b ∷ [] } }
+group a b = record { key = 0; group = record { n = 2; view = 2; sats = satellite a ∷ satellite b ∷ [] } }
 
 begun-whole : Whole (bytes "$GPGSV,2,1,02,01,,,*79\n")
 unfolding Whole
@@ -102,13 +101,13 @@ broken-off : (step_after 1 damaged).gathered.handed ≡ Nothing
 unfolding lines stretches trim answer dispatch formatter_of frame sized sentence sentence_type checksum_field taken known hex digit checksum_from types alike listed follow utf8_step after ascii until char one_of among letter_of ◌>>=◌ pure opt alt or_miss number number_from row_of gsv_data entry counted cell closing many skip take_while1 eof all_consuming one_of3 is_place stretch rest line_at next_place steps step_at more digits_of digits_for entry_text
 broken-off = refl
 
--- and from the talker's next number 1 the groups are the same
+-- and from the system's next number 1 the groups are the same
 gives-later : Gives (step_after 3 log) (group 8 9)
 unfolding lines stretches trim answer dispatch formatter_of frame sized sentence sentence_type checksum_field taken known hex digit checksum_from types alike listed follow utf8_step after ascii until char one_of among letter_of ◌>>=◌ pure opt alt or_miss number number_from row_of gsv_data entry counted cell closing many skip take_while1 eof all_consuming one_of3 is_place stretch rest line_at next_place steps step_at more digits_of digits_for entry_text
 gives-later = refl
 
 abbrev anew : Gsv Satellite
-anew = record { key = row_number gp; n = 2; number = 1; view = 2; sats = satellite 8 ∷ [] }
+anew = record { key = 0; n = 2; number = 1; view = 2; sats = satellite 8 ∷ [] }
 
 anew-stands : get_or (told (bytes "$GPGSV,2,1,02,08,,,*70\n$GPGSV,2,2,02,09,,,*72\n")) 0 other ≡ gsv anew
 unfolding lines stretches trim answer dispatch formatter_of frame sized sentence sentence_type checksum_field taken known hex digit checksum_from types alike listed follow utf8_step after ascii until char one_of among letter_of ◌>>=◌ pure opt alt or_miss number number_from row_of gsv_data entry counted cell closing many skip take_while1 eof all_consuming one_of3

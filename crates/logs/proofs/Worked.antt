@@ -10,7 +10,7 @@ use Rattle.frame.specs.Types.{types, alike, listed}
 use Rattle.frame.specs.Checksum.{checksum_from}
 use Rattle.frame.specs.Digits.{digit, hex}
 use Rattle.frame.specs.Frame.{taken, known, sentence_type, checksum_field, sentence, sized, frame}
-use Rattle.gsv.specs.Talker.{Talker, gp, gl, bd, gb, gq, pq, qz, row_for as row_of}
+use Rattle.gsv.specs.Talker.{row_for as row_of}
 use Rattle.gsv.specs.Gsv.{Satellite, gsv, entry, counted, cell, closing}
 use Rattle.text.specs.Many.{many, skip, take_while1, eof, all_consuming, one_of3}
 use Rattle.gsa.specs.Gsa.{gsa, empty_tail, last_system, full_tail, prn_fields, item, dop, dops, after_comma as system_after_comma, opt_system}
@@ -22,7 +22,6 @@ use Rattle.lines.specs.Places.{is_place, stretch, rest, line_at, next_place}
 use Rattle.pack.specs.Cut.{more}
 use Rattle.short.specs.Digits.{digits_of, digits_for}
 use Rattle.short.specs.Texts.{entry_text}
-use Rattle.rows.specs.Key.{row_number}
 use Rattle.gather.specs.Table.{fresh_table}
 use Rattle.logs.specs.Told.{told}
 use Rattle.logs.specs.Step.{refused, end, step_at, step_of}
@@ -31,18 +30,18 @@ use Rattle.logs.specs.declared.walk.Counts.{Counts}
 
 -- what is handed out at each line: row, n, in-view count and satellites
 record Brief : Type 0 where
-  row : ℕ
+  key : ℕ
   n : ℕ
   view : ℕ
   ids : List ℕ
 
-abbrev brief : Talker → ℕ → ℕ → List ℕ → Brief
-brief t n v ids = record { row = row_number t; n = n; view = v; ids = ids }
+abbrev brief : ℕ → ℕ → ℕ → List ℕ → Brief
+brief κ n v ids = record { key = κ; n = n; view = v; ids = ids }
 
 abbrev in_brief : Option (Handed Satellite) → Option Brief
 in_brief none = none
 in_brief (some h) =
-    some (record { row = h.key; n = h.group.n; view = h.group.view; ids = map (λ (s : Satellite). s.id) h.group.sats })
+    some (brief h.key h.group.n h.group.view (map (λ (s : Satellite). s.id) h.group.sats))
 
 abbrev gives : List ℕ → List (Option Brief)
 gives log = map in_brief (answers fresh (told log))
@@ -50,48 +49,27 @@ gives log = map in_brief (answers fresh (told log))
 -- a group of one line
 one-line : gives
     (bytes "$GPGSV,1,1,02,07,,,,08,,,*74\n")
-    ≡ some (brief gp 1 2 (7 ∷ 8 ∷ [])) ∷ []
+    ≡ some (brief 0 1 2 (7 ∷ 8 ∷ [])) ∷ []
 unfolding lines stretches trim answer dispatch formatter_of frame sized sentence sentence_type checksum_field taken known hex digit checksum_from types alike listed follow utf8_step after ascii until char one_of among letter_of ◌>>=◌ pure opt alt or_miss number number_from row_of gsv entry counted cell closing many skip take_while1 eof all_consuming one_of3 gsa empty_tail last_system full_tail prn_fields item dop dops system_after_comma opt_system
 one-line = refl
 
--- two talkers in turn
+-- two systems in turn
 in-turn : gives
     (bytes "$GPGSV,2,1,05,01,,,,02,,,,03,,,,04,,,*7B\n"
     ++ bytes "$GLGSV,2,1,05,65,,,,66,,,,67,,,,68,,,*6F\n"
     ++ bytes "$GPGSV,2,2,05,05,,,*79\n"
     ++ bytes "$GLGSV,2,2,05,69,,,*6F\n")
-    ≡ none ∷ none ∷ some (brief gp 2 5 (1 ∷ 2 ∷ 3 ∷ 4 ∷ 5 ∷ [])) ∷ some (brief gl 2 5 (65 ∷ 66 ∷ 67 ∷ 68 ∷ 69 ∷ [])) ∷ []
+    ≡ none ∷ none ∷ some (brief 0 2 5 (1 ∷ 2 ∷ 3 ∷ 4 ∷ 5 ∷ [])) ∷ some (brief 1 2 5 (65 ∷ 66 ∷ 67 ∷ 68 ∷ 69 ∷ [])) ∷ []
 unfolding lines stretches trim answer dispatch formatter_of frame sized sentence sentence_type checksum_field taken known hex digit checksum_from types alike listed follow utf8_step after ascii until char one_of among letter_of ◌>>=◌ pure opt alt or_miss number number_from row_of gsv entry counted cell closing many skip take_while1 eof all_consuming one_of3 gsa empty_tail last_system full_tail prn_fields item dop dops system_after_comma opt_system
 in-turn = refl
 
--- two talkers of one system in turn: each has its own run
-two-of-beidou : gives
-    (bytes "$BDGSV,2,1,02,01,,,*68\n"
-    ++ bytes "$GBGSV,2,1,02,11,,,*6A\n"
-    ++ bytes "$BDGSV,2,2,02,02,,,*68\n"
-    ++ bytes "$GBGSV,2,2,02,12,,,*6A\n")
-    ≡ none ∷ none ∷ some (brief bd 2 2 (1 ∷ 2 ∷ [])) ∷ some (brief gb 2 2 (11 ∷ 12 ∷ [])) ∷ []
-unfolding lines stretches trim answer dispatch formatter_of frame sized sentence sentence_type checksum_field taken known hex digit checksum_from types alike listed follow utf8_step after ascii until char one_of among letter_of ◌>>=◌ pure opt alt or_miss number number_from row_of gsv entry counted cell closing many skip take_while1 eof all_consuming one_of3 gsa empty_tail last_system full_tail prn_fields item dop dops system_after_comma opt_system
-two-of-beidou = refl
-
-three-of-qzss : gives
-    (bytes "$GQGSV,2,1,02,01,,,*78\n"
-    ++ bytes "$PQGSV,2,1,02,11,,,*6E\n"
-    ++ bytes "$QZGSV,2,1,02,21,,,*67\n"
-    ++ bytes "$GQGSV,2,2,02,02,,,*78\n"
-    ++ bytes "$PQGSV,2,2,02,12,,,*6E\n"
-    ++ bytes "$QZGSV,2,2,02,22,,,*67\n")
-    ≡ none ∷ none ∷ none ∷ some (brief gq 2 2 (1 ∷ 2 ∷ [])) ∷ some (brief pq 2 2 (11 ∷ 12 ∷ [])) ∷ some (brief qz 2 2 (21 ∷ 22 ∷ [])) ∷ []
-unfolding lines stretches trim answer dispatch formatter_of frame sized sentence sentence_type checksum_field taken known hex digit checksum_from types alike listed follow utf8_step after ascii until char one_of among letter_of ◌>>=◌ pure opt alt or_miss number number_from row_of gsv entry counted cell closing many skip take_while1 eof all_consuming one_of3 gsa empty_tail last_system full_tail prn_fields item dop dops system_after_comma opt_system
-three-of-qzss = refl
-
--- and what one begins the other does not end
-halves : gives
+-- BD and GB are one system
+one-system : gives
     (bytes "$BDGSV,2,1,02,01,,,*68\n"
     ++ bytes "$GBGSV,2,2,02,02,,,*6B\n")
-    ≡ none ∷ none ∷ []
+    ≡ none ∷ some (brief 3 2 2 (1 ∷ 2 ∷ [])) ∷ []
 unfolding lines stretches trim answer dispatch formatter_of frame sized sentence sentence_type checksum_field taken known hex digit checksum_from types alike listed follow utf8_step after ascii until char one_of among letter_of ◌>>=◌ pure opt alt or_miss number number_from row_of gsv entry counted cell closing many skip take_while1 eof all_consuming one_of3 gsa empty_tail last_system full_tail prn_fields item dop dops system_after_comma opt_system
-halves = refl
+one-system = refl
 
 -- a number missing
 missing : gives
@@ -127,12 +105,12 @@ another-view : gives
 unfolding lines stretches trim answer dispatch formatter_of frame sized sentence sentence_type checksum_field taken known hex digit checksum_from types alike listed follow utf8_step after ascii until char one_of among letter_of ◌>>=◌ pure opt alt or_miss number number_from row_of gsv entry counted cell closing many skip take_while1 eof all_consuming one_of3 gsa empty_tail last_system full_tail prn_fields item dop dops system_after_comma opt_system
 another-view = refl
 
--- another line of the talker between, that is a group itself
+-- another line of the system between, that is a group itself
 between : gives
     (bytes "$GPGSV,2,1,02,01,,,*79\n"
     ++ bytes "$GPGSV,1,1,01,09,,,*71\n"
     ++ bytes "$GPGSV,2,2,02,02,,,*79\n")
-    ≡ none ∷ some (brief gp 1 1 (9 ∷ [])) ∷ none ∷ []
+    ≡ none ∷ some (brief 0 1 1 (9 ∷ [])) ∷ none ∷ []
 unfolding lines stretches trim answer dispatch formatter_of frame sized sentence sentence_type checksum_field taken known hex digit checksum_from types alike listed follow utf8_step after ascii until char one_of among letter_of ◌>>=◌ pure opt alt or_miss number number_from row_of gsv entry counted cell closing many skip take_while1 eof all_consuming one_of3 gsa empty_tail last_system full_tail prn_fields item dop dops system_after_comma opt_system
 between = refl
 
@@ -167,11 +145,11 @@ anew : gives
     (bytes "$GPGSV,2,1,02,01,,,*79\n"
     ++ bytes "$GPGSV,2,1,02,08,,,*70\n"
     ++ bytes "$GPGSV,2,2,02,02,,,*79\n")
-    ≡ none ∷ none ∷ some (brief gp 2 2 (8 ∷ 2 ∷ [])) ∷ []
+    ≡ none ∷ none ∷ some (brief 0 2 2 (8 ∷ 2 ∷ [])) ∷ []
 unfolding lines stretches trim answer dispatch formatter_of frame sized sentence sentence_type checksum_field taken known hex digit checksum_from types alike listed follow utf8_step after ascii until char one_of among letter_of ◌>>=◌ pure opt alt or_miss number number_from row_of gsv entry counted cell closing many skip take_while1 eof all_consuming one_of3 gsa empty_tail last_system full_tail prn_fields item dop dops system_after_comma opt_system
 anew = refl
 
--- a refused line, a blank one, and lines of other types and talkers break nothing
+-- a refused line, a blank one, and lines of other types and systems break nothing
 kept : gives
     (bytes "$GPGSV,2,1,02,01,,,*79\n"
     ++ bytes "$GPGSV,2,9,02,01,,,*00\n"
@@ -179,7 +157,7 @@ kept : gives
     ++ bytes "$GPGSA,A,1,,,,*32\n"
     ++ bytes "$GLGSV,3,2,07,70,,,*64\n"
     ++ bytes "$GPGSV,2,2,02,02,,,*79\n")
-    ≡ none ∷ none ∷ none ∷ none ∷ none ∷ some (brief gp 2 2 (1 ∷ 2 ∷ [])) ∷ []
+    ≡ none ∷ none ∷ none ∷ none ∷ none ∷ some (brief 0 2 2 (1 ∷ 2 ∷ [])) ∷ []
 unfolding lines stretches trim answer dispatch formatter_of frame sized sentence sentence_type checksum_field taken known hex digit checksum_from types alike listed follow utf8_step after ascii until char one_of among letter_of ◌>>=◌ pure opt alt or_miss number number_from row_of gsv entry counted cell closing many skip take_while1 eof all_consuming one_of3 gsa empty_tail last_system full_tail prn_fields item dop dops system_after_comma opt_system
 kept = refl
 
@@ -187,7 +165,7 @@ kept = refl
 absent : gives
     (bytes "$GPGSV,2,1,03,01,,,,02,,,,03,-5,,,04,,,*65\n"
     ++ bytes "$GPGSV,2,2,03,*56\n")
-    ≡ none ∷ some (brief gp 2 3 (1 ∷ 2 ∷ [])) ∷ []
+    ≡ none ∷ some (brief 0 2 3 (1 ∷ 2 ∷ [])) ∷ []
 unfolding lines stretches trim answer dispatch formatter_of frame sized sentence sentence_type checksum_field taken known hex digit checksum_from types alike listed follow utf8_step after ascii until char one_of among letter_of ◌>>=◌ pure opt alt or_miss number number_from row_of gsv entry counted cell closing many skip take_while1 eof all_consuming one_of3 gsa empty_tail last_system full_tail prn_fields item dop dops system_after_comma opt_system
 absent = refl
 

@@ -14,7 +14,7 @@ use Rattle.gather.specs.Heads.{GathersHead}
 use Rattle.gather.specs.declared.line.Outcome.{Outcome}
 use Rattle.gather.specs.declared.table.Source as Code
 use Rattle.only.proofs.Laws.{same, undone}
-use Rattle.only.proofs.Gsv.{talker-back, talker-is}
+use Rattle.only.proofs.Gsv.{system-of, system-is}
 
 pub row-stands : (row : List ℕ) {r q : Bool} → r ≡ stands row → q ≡ stands row → r ≡ q
 row-stands row = same
@@ -26,11 +26,11 @@ pub put : (row : List ℕ) (line : GsvRecord) {l m : List ℕ} {r q : Outcome}
 put row line x y = (same x.says y.says, same x.words y.words)
 
 source-back : Source → Code.Source
-source-back s = record { talker = talker-back s.talker }
+source-back s = record { system = system-of s.system }
 
 source-is : (r : Code.Source) → source-back (source r) ≡ r
 unfolding source-back
-source-is r = λ i. record { talker = talker-is r.talker i }
+source-is r = λ i. record { system = system-is r.system i }
 
 pub source-of : (t : GsvTalker) {r q : Code.Source} → source r ≡ source_from (talker t) → source q ≡ source_from (talker t) → r ≡ q
 source-of t x y = undone source source-back source-is (same x y)

@@ -26,7 +26,7 @@ use Rattle.gsv.specs.declared.SatInfo.{SatInfo}
 use Rattle.only.proofs.Laws.{same, undone, reads}
 use Rattle.only.proofs.Text.{held-of, held-is}
 
-system-of : System → GnssType
+pub system-of : System → GnssType
 system-of beidou = Beidou
 system-of galileo = Galileo
 system-of gps = Gps
@@ -34,7 +34,7 @@ system-of glonass = Glonass
 system-of navic = NavIC
 system-of qzss = Qzss
 
-system-is : (r : GnssType) → system-of (gnss r) ≡ r
+pub system-is : (r : GnssType) → system-of (gnss r) ≡ r
 unfolding system-of
 system-is Beidou = refl
 system-is Galileo = refl

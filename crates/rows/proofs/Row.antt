@@ -12,7 +12,7 @@ use borrow.Author.Tests.{le-leb, leb-true}
 use Rattle.text.specs.Bytes.{byte}
 use Rattle.groups.specs.Log.{Gsv}
 use Rattle.groups.specs.Step.{Open, step}
-use Rattle.gsv.specs.Talker.{Talker as GsvTalker, ga, gp, gl, bd, gb, gi, gq, pq, qz, row_for, talker_of}
+use Rattle.gsv.specs.Talker.{Talker as GsvTalker, ga, gp, gl, gb, gi, gq, row_for, talker_of}
 use Rattle.gsv.specs.Gsv.{Satellite, GsvSentence}
 use Rattle.answer.specs.Sentence.{answer, is_gsv}
 use Rattle.short.specs.Texts.{Upto, Readable, AllReadable, body_of}
@@ -24,11 +24,10 @@ use Rattle.pack.specs.Rows.{Packs}
 use Rattle.pack.proofs.Few.{four-each}
 use Rattle.pack.proofs.Greedy.{greedy}
 use Rattle.pack.proofs.Rows.{Sound, sound-step, left-by}
-use Rattle.rows.specs.Key.{source_from, row_from, row_count, talker_in}
+use Rattle.rows.specs.Key.{source_from, row_from, row_count}
 use Rattle.rows.specs.Line.{line_of}
 use Rattle.rows.specs.Leave.{Line, Leavable, upto, readable, all_readable, entry_size, space, leavable, Stands}
 use Rattle.rows.proofs.Fit.{alone, room-cut}
-use Rattle.rows.proofs.Keys.{row-of-talker}
 
 -- the tests, one by one
 upto-is : (max : ℕ) (o : Option ℕ) → (upto max o ≡ true) ↔ Upto max o
@@ -141,23 +140,18 @@ record Talker (κ : ℕ) : Type 0 where
   pub second-letter : Letter second
   pub mine : row_from (source_from talker) ≡ κ
 
-spelt : (t : GsvTalker) (a b : ℕ) → talker_of a b ≡ some t → Letter a → Letter b → Talker (row_from (source_from t))
-spelt t a b e p q = record { first = a; second = b; talker = t; names = e; first-letter = p; second-letter = q; mine = refl }
-
-spelling : (t : GsvTalker) → Talker (row_from (source_from t))
-unfolding row_for
-spelling ga = spelt ga (byte "G") (byte "A") refl (omega arith, omega arith) (omega arith, omega arith)
-spelling gp = spelt gp (byte "G") (byte "P") refl (omega arith, omega arith) (omega arith, omega arith)
-spelling gl = spelt gl (byte "G") (byte "L") refl (omega arith, omega arith) (omega arith, omega arith)
-spelling bd = spelt bd (byte "B") (byte "D") refl (omega arith, omega arith) (omega arith, omega arith)
-spelling gb = spelt gb (byte "G") (byte "B") refl (omega arith, omega arith) (omega arith, omega arith)
-spelling gi = spelt gi (byte "G") (byte "I") refl (omega arith, omega arith) (omega arith, omega arith)
-spelling gq = spelt gq (byte "G") (byte "Q") refl (omega arith, omega arith) (omega arith, omega arith)
-spelling pq = spelt pq (byte "P") (byte "Q") refl (omega arith, omega arith) (omega arith, omega arith)
-spelling qz = spelt qz (byte "Q") (byte "Z") refl (omega arith, omega arith) (omega arith, omega arith)
+with-g : (b : ℕ) (t : GsvTalker) → talker_of (byte "G") b ≡ some t → Letter b → Talker (row_from (source_from t))
+with-g b t e h = record { first = byte "G"; second = b; talker = t; names = e; first-letter = (omega arith, omega arith); second-letter = h; mine = refl }
 
 talker : (κ : ℕ) → κ < row_count → Talker κ
-talker κ h = subst Talker (row-of-talker κ h) (spelling (talker_in κ))
+unfolding row_for
+talker zero h = with-g (byte "P") gp refl (omega arith, omega arith)
+talker (suc zero) h = with-g (byte "L") gl refl (omega arith, omega arith)
+talker (suc (suc zero)) h = with-g (byte "A") ga refl (omega arith, omega arith)
+talker (suc (suc (suc zero))) h = with-g (byte "B") gb refl (omega arith, omega arith)
+talker (suc (suc (suc (suc zero)))) h = with-g (byte "Q") gq refl (omega arith, omega arith)
+talker (suc (suc (suc (suc (suc zero))))) h = with-g (byte "I") gi refl (omega arith, omega arith)
+talker (suc (suc (suc (suc (suc (suc κ)))))) h = absurd (omega arith)
 
 -- and a line wherever there is room
 has-line : (κ : ℕ) → Talker κ → (n k v : ℕ) (es : List Satellite) → n ≤ 9 → k ≤ 9 → Room v es

@@ -1,38 +1,23 @@
--- What a run belongs to, and the row that it has. There is a row for each talker, in the order of their list.
-use Rattle.std.specs.Prelude.{ℕ, List, map, get_or}
-use Rattle.gsv.specs.Talker.{Talker, ga, gp, gl, bd, gb, gi, gq, pq, qz, Row, talkers}
+-- What a run belongs to, and the row that it has. There is a row for each system, in the order of the systems' numbers.
+use Rattle.std.specs.Prelude.{ℕ, ◌-◌}
+use Rattle.gsv.specs.Talker.{Talker, System, system_of, system_number}
 use Rattle.gsv.specs.Gsv.{GsvSentence}
 
--- what a group is gathered from: a talker, which names its system (`system_of`)
+-- what a group is gathered from
 pub record Source : Type 0 where
-  pub talker : Talker
+  pub system : System
 
 abbrev pub source_from : Talker → Source
-source_from t = record { talker = t }
+source_from t = record { system = system_of t }
 
 abbrev pub source_of : GsvSentence → Source
 source_of s = source_from s.talker
 
-abbrev pub row_number : Talker → ℕ
-row_number ga = 0
-row_number gp = 1
-row_number gl = 2
-row_number bd = 3
-row_number gb = 4
-row_number gi = 5
-row_number gq = 6
-row_number pq = 7
-row_number qz = 8
-
 abbrev pub row_from : Source → ℕ
-row_from s = row_number s.talker
+row_from s = system_number s.system - 1
 
 abbrev pub key_of : GsvSentence → ℕ
 key_of s = row_from (source_of s)
 
 abbrev pub row_count : ℕ
-row_count = 9
-
--- whose row has a number, below the count of rows
-abbrev pub talker_in : ℕ → Talker
-talker_in κ = get_or (map (λ (r : Row). r.talker) talkers) κ ga
+row_count = 6

@@ -2,7 +2,7 @@
 // is a case, and is written with the whole of what came of it; what `stdout` expects was worked out from 01's words.
 use frame::Refusal;
 use gather::line::Outcome;
-use gather::{lent, table};
+use gather::table;
 use libc::STDOUT_FILENO;
 use logs::step::Stepped;
 use logs::walk::{Counts, Walked};
@@ -97,20 +97,17 @@ fn word(w: u32) {
     number(w as usize);
 }
 
-// Where the row of GP begins: behind that of GA.
-const GP: usize = lent::ROW;
-
-// Of that row: n, the count in view, how many entries, and of these the first and the eleventh.
+// Of the first row, which is that of GPS: n, the count in view, how many entries, and of these the first and the eleventh.
 fn tell_group(words: &[u32]) {
     if words.len() != table::WORDS {
         return;
     }
     say(b" group");
-    word(words[GP + lent::N]);
-    word(words[GP + lent::VIEW]);
-    word(words[GP + lent::COUNT]);
-    word(words[GP + lent::HEAD]);
-    word(words[GP + lent::HEAD + 10 * lent::CELL]);
+    word(words[0]);
+    word(words[2]);
+    word(words[3]);
+    word(words[4]);
+    word(words[44]);
 }
 
 fn stepped(log: &[u8], lines: usize, place: usize) {

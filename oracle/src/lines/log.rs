@@ -1,9 +1,9 @@
 use super::{random::Random, Generator};
-use crate::{known::TALKERS, with_checksum, Talker};
+use crate::{known::TALKERS, with_checksum};
 
-/// A talker's list, of which some sentences were sent.
+/// A receiver's list of one system, of which some sentences were sent.
 struct List {
-    talker: Talker,
+    talkers: &'static [&'static str],
     sentences: usize,
     next: usize,
     in_view: usize,
@@ -18,13 +18,11 @@ pub fn generated_log(seed: u64) -> Vec<u8> {
     let mut log = vec![];
     // How much of the log is amiss.
     let fault_in = random.pick(&[4, 8, 20, 1000]);
-    // Many talkers, or a few that send lists in turn; BD and GB stand side by side, and the three of QZSS.
-    let few = random.between(1, TALKERS.len());
-    let first = random.below(TALKERS.len() - few + 1);
-    let talkers = &TALKERS[first..][..few];
+    // Many systems, or a few whose lists cut each other.
+    let systems = random.between(1, TALKERS.len());
     for _ in 0..random.between(0, 80) {
         if lists.is_empty() || random.one_in(6) {
-            lists.push(list(&mut random, talkers));
+            lists.push(list(&mut random, systems));
         }
         let chosen = random.below(lists.len());
         let list = &mut lists[chosen];
@@ -53,9 +51,9 @@ pub fn generated_log(seed: u64) -> Vec<u8> {
     log
 }
 
-fn list(random: &mut Random, talkers: &[Talker]) -> List {
+fn list(random: &mut Random, systems: usize) -> List {
     List {
-        talker: random.pick(talkers),
+        talkers: TALKERS[random.below(systems)],
         sentences: random.pick(&[1, 1, 2, 2, 3, 3, 4, 9]),
         next: 1,
         in_view: random.between(1, 3),
@@ -117,7 +115,7 @@ fn gsv(
     number: usize,
     in_view: usize,
 ) -> Vec<u8> {
-    let talker = list.talker.escape_ascii();
+    let talker = random.pick(list.talkers);
     let mut body = format!("{talker}GSV,{sentences},{number},{in_view},");
     for _ in 0..random.below(5) {
         let (satellite, signal) = (random.below(100), random.below(60));

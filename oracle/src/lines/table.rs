@@ -182,13 +182,13 @@ impl TableGenerator {
         &self.line
     }
 
-    /// A sentence of the row's talker, with these counts.
+    /// A sentence of the row's system, with these counts.
     fn sentence(&mut self, counts: [u32; 3]) {
         let TableGenerator {
             random, line, row, ..
         } = self;
         line.push(b'$');
-        line.extend_from_slice(&TALKERS[*row]);
+        line.extend_from_slice(random.pick(TALKERS[*row]).as_bytes());
         line.extend_from_slice(b"GSV");
         for count in counts {
             line.push(b',');

@@ -1,8 +1,6 @@
 //! Satellite groups, gathered from GSV sentences by 01's rules in plain Rust: the other opinion beside the proved table.
 
-use std::collections::BTreeMap;
-
-use proved_nmea::{read, Entry, Group, Gsv, Sentence, System, Talker};
+use proved_nmea::{read, Entry, Group, Gsv, Sentence, System};
 
 use super::{lines_of, without_end};
 
@@ -10,7 +8,6 @@ use super::{lines_of, without_end};
 #[derive(Clone, Debug, PartialEq)]
 pub struct Handed {
     pub lines: Vec<u64>,
-    pub talker: Talker,
     pub system: System,
     pub sentences: u16,
     pub in_view: u16,
@@ -21,7 +18,6 @@ impl From<Group> for Handed {
     fn from(group: Group) -> Self {
         Handed {
             lines: group.lines,
-            talker: group.talker,
             system: group.system,
             sentences: group.sentences,
             in_view: group.in_view,
@@ -30,17 +26,18 @@ impl From<Group> for Handed {
     }
 }
 
-/// The run that stands, for each talker: the group as far as it has come, and the number of the sentence that it waits for.
+/// The run that stands, for each system: the group as far as it has come, and the number of the sentence that it waits for.
 #[derive(Default)]
 pub struct Gatherer {
-    runs: BTreeMap<Talker, (Handed, u16)>,
+    rows: [Option<(Handed, u16)>; 6],
 }
 
 impl Gatherer {
     /// Takes the log's next accepted GSV sentence, and hands out the group that it completes.
     pub fn put(&mut self, at: u64, line: &Gsv) -> Option<Handed> {
+        let row = &mut self.rows[usize::from(line.system.number()) - 1];
         // Whatever does not continue the run breaks it.
-        let stood = self.runs.remove(&line.talker);
+        let stood = row.take();
         if line.sentences > 9 || !(1..=line.sentences).contains(&line.number) {
             return None;
         }
@@ -48,7 +45,6 @@ impl Gatherer {
             // A first sentence starts anew, also where a run stands.
             _ if line.number == 1 => Handed {
                 lines: vec![],
-                talker: line.talker,
                 system: line.system,
                 sentences: line.sentences,
                 in_view: line.in_view,
@@ -68,7 +64,7 @@ impl Gatherer {
         if line.number == line.sentences {
             return Some(group);
         }
-        self.runs.insert(line.talker, (group, line.number + 1));
+        *row = Some((group, line.number + 1));
         None
     }
 }

@@ -1,9 +1,7 @@
 //! A plain gatherer over the crate's records, as a tool would write it from
-//! document 01: a run for each talker, which stands in the line and not in the
-//! record, and the groups stored in a list.
+//! document 01: a run for each system, and the groups stored in a list.
 
 use nmea::{sentences::GsvData, Satellite};
-use oracle::{row_number, Talker, ROWS};
 
 /// The most sentences that a group has.
 const LONGEST: u16 = 9;
@@ -22,13 +20,13 @@ struct Run {
 
 #[derive(Default)]
 pub struct Gatherer {
-    runs: [Option<Run>; ROWS],
+    runs: [Option<Run>; 6],
     pub groups: Vec<Group>,
 }
 
 impl Gatherer {
-    pub fn put(&mut self, talker: Talker, line: GsvData) {
-        let slot = &mut self.runs[row_number(talker)];
+    pub fn put(&mut self, line: GsvData) {
+        let slot = &mut self.runs[line.gnss_type as usize];
         let run = match slot.take() {
             _ if line.sentence_num == 1 => {
                 if !(1..=LONGEST).contains(&line.number_of_sentences) {

@@ -260,7 +260,7 @@ fn crate_gather(lines: &[&[u8]]) -> Gatherer {
     let mut gatherer = Gatherer::default();
     for line in lines {
         match parse_bytes(line) {
-            Ok(ParseResult::GSV(data)) => gatherer.put([line[1], line[2]], data),
+            Ok(ParseResult::GSV(data)) => gatherer.put(data),
             other => seen(other),
         }
     }
@@ -280,7 +280,7 @@ fn crate_walk(log: &[u8]) -> ([u64; 4], Gatherer) {
         match parse_bytes(line) {
             Ok(ParseResult::GSV(data)) => {
                 accepted += 1;
-                gatherer.put([line[1], line[2]], data);
+                gatherer.put(data);
             }
             Ok(_) => accepted += 1,
             Err(_) => refused += 1,

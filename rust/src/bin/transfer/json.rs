@@ -266,7 +266,6 @@ pub fn group(text: &mut String, file: &str, group: &Group) {
         object.list("lines", group.lines.iter(), |text, line| {
             let _ = write!(text, "{line}");
         });
-        object.string("talker", group.talker);
         object.string("system", group.system);
         object.number("sentences", u64::from(group.sentences));
         object.number("in_view", u64::from(group.in_view));

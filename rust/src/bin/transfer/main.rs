@@ -225,7 +225,7 @@ impl Run<'_> {
 }
 
 /// A group, as in
-/// `FILE:1,2: group GP GPS sentences 2 in view 2 satellites 3 (3 111 40) 4 (15 270 -)`:
+/// `FILE:1,2: group GPS sentences 2 in view 2 satellites 3 (3 111 40) 4 (15 270 -)`:
 /// behind each satellite its elevation, azimuth and signal.
 struct Shown<'a>(&'a str, &'a Group);
 
@@ -238,11 +238,10 @@ impl fmt::Display for Shown<'_> {
             write!(f, "{before}{line}")?;
             before = ',';
         }
-        let (talker, system) = (group.talker, group.system);
-        let (sentences, in_view) = (group.sentences, group.in_view);
+        let (system, sentences, in_view) = (group.system, group.sentences, group.in_view);
         write!(
             f,
-            ": group {talker} {system} sentences {sentences} in view {in_view} satellites"
+            ": group {system} sentences {sentences} in view {in_view} satellites"
         )?;
         for entry in &group.entries {
             let Entry { satellite, .. } = entry;

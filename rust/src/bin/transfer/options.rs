@@ -21,8 +21,7 @@ order. Of several files each has its own totals, before those of all. Without
 a FILE, and for -, standard input is read.
 
   --groups     prints each group at its last line: the numbers of its lines,
-               its talker and system, sentences, satellites in view and
-               satellites
+               its system, sentences, satellites in view and satellites
   --summary    prints behind the totals what all logs have: lines by type, by
                refusal and by system, GSV lines that are in no group, groups
                with fewer or more entries than in view, and lines with bytes

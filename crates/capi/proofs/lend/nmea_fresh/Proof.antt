@@ -1,16 +1,15 @@
 -- `nmea_fresh` meets its contract. The loop's invariant: the first `i` words are 0, and the others stand. Assumes nothing.
 use Rattle.std.proofs.Common.{◌≡◌, ℕ, ◌-◌, ◌≤◌, List, length, set, sym, refl, ap, ◌∙◌, subst, arith}
-use Rattle.gather.specs.Table.{table_words}
 use Rattle.capi.specs.Lend.{Freshened}
 use Rattle.capi.proofs.Lending.{cleared, cleared-long, cleared-next, all-cleared, not-cleared}
 use Rattle.capi.proofs.lend.nmea_fresh.Statement.{statement}
 use Rattle.capi.proofs.lend.nmea_fresh.Tie as tie
 
 abbrev invariant-loop : tie.invariant-loop
-invariant-loop table₀ i₀ table i = (i ≤ table_words) × (table ≡ cleared table₀ i)
+invariant-loop table₀ i₀ table i = (i ≤ 888) × (table ≡ cleared table₀ i)
 
 abbrev decreases-loop : tie.decreases-loop
-decreases-loop table₀ i₀ table i = table_words - i
+decreases-loop table₀ i₀ table i = 888 - i
 
 returns : tie.Need-returns invariant-loop decreases-loop
 returns c = not-cleared c.before.args.table.now c.if1.true

@@ -15,16 +15,11 @@ returns-3 c = let a = c.before.before.before.before.before.args in (no-such-row 
 
 returns-4 : tie.Need-returns-4
 returns-4 c =
-    let c₁ = c.before.before.before.before in
-    let c₂ = c₁.before.before in
-    let a = c₂.before.before.before.before.before.args in
-    let z : a.row * 148 + 148 - a.row * 148 ≡ 148 = omega arith in (
-      row-taken a.table.now a.row a.out.now _ _ _ _ c₂.before.before.if1.false c₂.before.if2.false c₂.if3.false
-          (λ j. take (z j) (drop (a.row * 148) a.table.now)) c₁.talker-in.ensures c.before.before.read-row.ensures,
-      refl,
-    )
+    let a = c.before.before.before.before.before.before.before.before.before.before.args in
+    let z : a.row * 148 + 148 - a.row * 148 ≡ 148 = omega arith in
+    (row-taken a.table.now a.row a.out.now _ _ _ c.before.before.before.before.before.before.before.if1.false c.before.before.before.before.before.before.if2.false c.before.before.before.before.before.if3.false (λ j. take (z j) (drop (a.row * 148) a.table.now)) c.before.before.read-row.ensures, refl)
 
 pub nmea-row-spec : {M : Type 1} → statement M
 nmea-row-spec = tie.close (tie.spec
     returns returns-2 returns-3 (λ c. search rules) (λ c. search rules) (λ c. search rules) (λ c. search rules) (λ c. search rules)
-    (λ c. search rules) (λ c κs. search rules) (λ c κs. search rules) (λ c. search rules) returns-4)
+    (λ c. search rules) (λ c κs. search rules) (λ c. search rules) returns-4)

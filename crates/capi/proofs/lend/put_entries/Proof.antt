@@ -2,13 +2,13 @@
 use Rattle.std.proofs.Common.{◌≡◌, ℕ, ◌-◌, ◌≤◌, length, refl, ap, ◌∙◌, arith}
 use lib.Seq.{sets}
 use Rattle.gather.specs.Words.{sats_from}
-use Rattle.capi.specs.Lend.{head_words, entries_words}
+use Rattle.capi.specs.Lend.{entries_words}
 use Rattle.capi.proofs.Lending.{one-entry}
 use Rattle.capi.proofs.lend.put_entries.Statement.{statement}
 use Rattle.capi.proofs.lend.put_entries.Tie as tie
 
 abbrev invariant-loop : tie.invariant-loop
-invariant-loop out₀ row count i₀ out i = (i ≤ count) × (out ≡ sets out₀ head_words (entries_words (sats_from 0 i row))) × (length out ≡ length out₀)
+invariant-loop out₀ row count i₀ out i = (i ≤ count) × (out ≡ sets out₀ 5 (entries_words (sats_from 0 i row))) × (length out ≡ length out₀)
 
 abbrev decreases-loop : tie.decreases-loop
 decreases-loop out₀ row count i₀ out i = count - i
@@ -44,7 +44,7 @@ returns c =
     let a = c.before.before.before.before.args in
     let w = c.before.loop in
     let e : w.i ≡ a.count = omega (arith, w.invariant.0, c.loop-test.false) in
-    w.invariant.1 ∙ ap (λ (n : ℕ). sets a.out.now head_words (entries_words (sats_from 0 n a.row.now))) e
+    w.invariant.1 ∙ ap (λ (n : ℕ). sets a.out.now 5 (entries_words (sats_from 0 n a.row.now))) e
 
 pub put-entries-spec : {M : Type 1} → statement M
 put-entries-spec = tie.close (tie.spec invariant-loop decreases-loop loop-holds put-entry-requires add-i loop-less loop-again same-length returns)

@@ -2,16 +2,15 @@
 use Rattle.std.proofs.Common.{◌≡◌, ℕ, ◌-◌, ◌≤◌, length, refl, ap, ◌∙◌, arith, length-set}
 use lib.Seq.{sets}
 use Rattle.words.specs.Part.{zeros}
-use Rattle.capi.specs.Lend.{row_room}
 use Rattle.capi.proofs.Lending.{one-zero}
 use Rattle.capi.proofs.lend.put_zeros.Statement.{statement}
 use Rattle.capi.proofs.lend.put_zeros.Tie as tie
 
 abbrev invariant-loop : tie.invariant-loop
-invariant-loop out₀ from j₀ out j = (from ≤ j) × (j ≤ row_room) × (out ≡ sets out₀ from (zeros (j - from))) × (length out ≡ length out₀)
+invariant-loop out₀ from j₀ out j = (from ≤ j) × (j ≤ 293) × (out ≡ sets out₀ from (zeros (j - from))) × (length out ≡ length out₀)
 
 abbrev decreases-loop : tie.decreases-loop
-decreases-loop out₀ from j₀ out j = row_room - j
+decreases-loop out₀ from j₀ out j = 293 - j
 
 loop-holds : tie.Need-loop-init invariant-loop decreases-loop
 loop-holds c =
@@ -42,7 +41,7 @@ returns : tie.Need-returns invariant-loop decreases-loop
 returns c =
     let a = c.before.before.args in
     let w = c.before.loop in
-    let e : w.j ≡ row_room = omega (arith, w.invariant.1, c.loop-test.false) in
+    let e : w.j ≡ 293 = omega (arith, w.invariant.1, c.loop-test.false) in
     w.invariant.2 ∙ ap (λ (n : ℕ). sets a.out.now a.from (zeros (n - a.from))) e
 
 pub put-zeros-spec : {M : Type 1} → statement M

@@ -1,8 +1,8 @@
 -- `taken_code` meets its contract: a GSV line's row is that of its talker's source. Assumes nothing.
 use Rattle.std.proofs.Common.{sym, ap, ◌∙◌, arith, rules}
 use Rattle.rows.specs.Key.{Source, row_from}
-use Rattle.rows.proofs.Keys.{row-below}
 use Rattle.gather.specs.Answer.{source}
+use Rattle.gather.proofs.Tables.{row-below}
 use Rattle.capi.specs.Lend.{code}
 use Rattle.capi.specs.Code.{taken_code}
 use Rattle.capi.proofs.lend.taken_code.Statement.{statement}

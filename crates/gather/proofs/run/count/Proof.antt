@@ -5,7 +5,7 @@ use Rattle.gsv.specs.Answer.{talker, head_of}
 use Rattle.rows.specs.Key.{Source, source_from, row_from}
 use Rattle.gather.specs.Answer.{source}
 use Rattle.gather.proofs.Heads.{no-heads, gathers-head}
-use Rattle.rows.proofs.Keys.{row-below}
+use Rattle.gather.proofs.Tables.{row-below}
 use borrow.Author.Rules.{rules}
 use Rattle.gather.proofs.run.count.Statement.{statement}
 use Rattle.gather.proofs.run.count.Tie as tie

@@ -4,9 +4,8 @@ use mathlib.Core.Path.{ap, ◌∙◌}
 use Rattle.gsv.specs.Answer.{gsv_sentence}
 use Rattle.rows.specs.Key.{Source, source_of, row_from}
 use Rattle.rows.specs.Line.{line_of}
-use Rattle.rows.proofs.Keys.{row-below}
 use Rattle.gather.specs.Answer.{source}
-use Rattle.gather.proofs.Tables.{no-table, gathers}
+use Rattle.gather.proofs.Tables.{row-below, no-table, gathers}
 use borrow.Author.Rules.{rules}
 use Rattle.gather.proofs.table.gather.Statement.{statement}
 use Rattle.gather.proofs.table.gather.Tie as tie

@@ -1,0 +1,17 @@
+-- What each turn of the loop keeps, and what falls.
+use Prim.Native.Nat.{◌+◌, ◌-◌, ◌*◌, ◌≤◌}
+use native.Mathlib.Omega.{arith}
+use mathlib.Core.Path.{refl, ◌≡◌, ap, ◌∙◌, sym}
+use lib.ListN.{length, drop}
+use borrow.Author.Rules.{rules}
+use Rattle.text.specs.Number.{number, number_from}
+use Rattle.text.proofs.Places.{a-read, no-read}
+use Rattle.text.proofs.Digits.{number-past, number-end, number-over, unit-first, unit-absent, unit-more, unit-stop}
+use Rattle.text.proofs.number.Given as goal
+
+abbrev pub invariant-loop-i : goal.invariant-loop-i
+invariant-loop-i l =
+    (l.at ≤ l.i) × (l.i ≤ length l.s) × (l.value ≤ l.max) × (l.top ≡ l.max) × (number l.max (drop l.at l.s) ≡ number_from l.max l.value (drop l.i l.s))
+
+abbrev pub decreases-loop-i : goal.decreases-loop-i
+decreases-loop-i l = length l.s - l.i

@@ -54,15 +54,15 @@ with p s c v =
 abbrev pub rows : List (List ℕ × Answer)
 rows =
     -- of minus zero the f32 alone tells; W turns it back
-    (bytes "$GPRMC,,A,,,,,-0,-4.5,,,*39", with none (some (short (pos 0) 0 0x80000000)) (some (short (neg_ℤ (pos 45)) 1 0x_c0900000)) none)
+    (bytes "$GPRMC,,A,,,,,-0,-4.5,,,*39", with none (some (short (pos 0) 0 0x80000000)) (some (short (neg_ℤ (pos 45)) 1 0xC0900000)) none)
     ∷ (bytes "$GPRMC,,A,,,,,,,,-0,W*6C", with none none none (some (short (pos 0) 0 0)))
     -- a sign counts as no digit
-    ∷ (bytes "$GPRMC,,A,,,,,-1234567,,,,*3B", with none (some (short (neg_ℤ (pos 1234567)) 0 0x_c996_b438)) none none)
+    ∷ (bytes "$GPRMC,,A,,,,,-1234567,,,,*3B", with none (some (short (neg_ℤ (pos 1234567)) 0 0xC996B438)) none none)
     ∷ (bytes "$GPRMC,,A,,,,,-12345678,,,,*03", is_refused bad_number)
     -- minutes count against the degrees: below the equator under N, on it, and S or W negates what came out
     ∷ (
       bytes "$GPRMC,,A,00-30,N,001-60,W,,,,,*0B",
-      with (some (record { lat = at (neg_ℤ (pos 30000000000)) (byte "N") 0x_bFE0000000000000; lon = at (pos 0) (byte "W") 0x8000000000000000 })) none none none,
+      with (some (record { lat = at (neg_ℤ (pos 30000000000)) (byte "N") 0xBFE0000000000000; lon = at (pos 0) (byte "W") 0x8000000000000000 })) none none none,
     )
     ∷ (
       bytes "$GPRMC,,A,00-0,N,000-6.0,W,,,,,*17",
@@ -82,7 +82,7 @@ rows =
               mode = byte "A";
               fix = byte "1";
               satellites = [];
-              dops = some (record { pdop = short (neg_ℤ (pos 1)) 0 0x_bF800000; hdop = short (pos 0) 0 0; vdop = short (pos 0) 0 0 });
+              dops = some (record { pdop = short (neg_ℤ (pos 1)) 0 0xBF800000; hdop = short (pos 0) 0 0; vdop = short (pos 0) 0 0 });
               system = some gps;
             };
           }),

@@ -47,7 +47,7 @@ abbrev london : LatLon
 london =
     record {
       lat = record { count = pos 3090500000000; letter = byte "N"; degrees = of_bits binary64 0x4049_c11111111111 };
-      lon = record { count = neg_ℤ (pos 6000000000); letter = byte "W"; degrees = of_bits binary64 0x_bFB999999999999_a };
+      lon = record { count = neg_ℤ (pos 6000000000); letter = byte "W"; degrees = of_bits binary64 0xBFB999999999999A };
     }
 
 abbrev of_vtg : Vtg → Answer
@@ -135,9 +135,9 @@ rows = (
     ∷ ([], is_refused syntax_error)
     ∷ (replicate 102 (byte "x"), is_refused syntax_error)
     ∷ (replicate 103 (byte "x"), is_refused (too_long 103))
-    ∷ (0x_c3 ∷ 0x_a9 ∷ [], is_refused not_ascii)
-    ∷ (0x_c3 ∷ 0x28 ∷ [], is_refused bad_utf8)
-    ∷ (0x_eD ∷ 0x_a0 ∷ 0x80 ∷ [], is_refused bad_utf8)
+    ∷ (0xC3 ∷ 0xA9 ∷ [], is_refused not_ascii)
+    ∷ (0xC3 ∷ 0x28 ∷ [], is_refused bad_utf8)
+    ∷ (0xED ∷ 0xA0 ∷ 0x80 ∷ [], is_refused bad_utf8)
     ∷ (
       bytes "$GPGGA,123519,4807.038,N,01131.324,E,1,08,0.9,545.4,M,46.9,M, , *42",
       is_gga

@@ -1,4 +1,6 @@
 // What C and Rust call: a line's refusal number, and its whole answer in words.
+#![tactic(auto)]
+
 pub mod lend;
 pub mod totals;
 

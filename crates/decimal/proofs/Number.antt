@@ -98,11 +98,13 @@ module _ {A : Type 0} (r : Reader A) (l : List ℕ) where
     bad : OneBad ps rest
 
   go-on : (ps : List Place) (a : A) (m : List ℕ) → r l ≡ got a m → OneBad ps m → OneBad (behind r ps) l
+  go-on [] a m e x = elim x [ ]
   go-on (p ∷ ps) a m e (inl b) =
       inl (record { rest = b.rest; reached = bind-got r (λ _. p.before) l e ∙ b.reached; no-decimal = b.no-decimal })
   go-on (p ∷ ps) a m e (inr b) = inr (go-on ps a m e b)
 
   come-from : (ps : List Place) → OneBad (behind r ps) l → Then ps
+  come-from [] x = elim x [ ]
   come-from (p ∷ ps) (inl b) =
       let u = unbind r (λ _. p.before) l b.reached in
       record {

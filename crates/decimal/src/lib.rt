@@ -1,5 +1,7 @@
 // Decimal places: a plain decimal within its digit limits, short or long, with its sign and the nearest float.
 // One reader over the limits serves both lengths, and one power of ten all that scale.
+#![tactic(auto)]
+
 ghost use Rattle.std.specs.Prelude.{◌≡◌, ◌+◌, ◌*◌, ◌^◌, ◌≤◌, ◌<◌, min, drop};
 ghost use Rattle.std.specs.Float.{binary32, binary64};
 ghost use Rattle.std.specs.Float.Ieee.{round};
@@ -56,7 +58,7 @@ pub fn pow10(k: u32) -> u64
 }
 
 // A run of digits: the number it writes, its count of digits, the next place; or more digits than allowed.
-#[derive(Drop)]
+#[derive(Clone, Copy)]
 pub enum Ran {
     Over,
     Is(u64, u32, usize),
@@ -97,7 +99,7 @@ fn ends(s: &[u8], at: usize) -> bool
 }
 
 // A decimal place without its sign: absent, the digits as one number with their count of decimals, or the refusal Number.
-#[derive(Drop)]
+#[derive(Clone, Copy)]
 pub enum UnsignedAt {
     Absent(usize),
     Is(u64, u32, usize),
@@ -138,7 +140,7 @@ fn unsigned_place(s: &[u8], at: usize, all: u32, before: u32, after: u32) -> Uns
 }
 
 // Whether a minus sign stands there, and the place behind it.
-#[derive(Drop)]
+#[derive(Clone, Copy)]
 pub struct SignAt {
     pub minus: bool,
     pub at: usize,
@@ -157,7 +159,7 @@ fn minus_sign(s: &[u8], at: usize) -> SignAt
 }
 
 // A short decimal: its digits as a whole number, its count of decimals, and the nearest f32.
-#[derive(Drop)]
+#[derive(Clone, Copy)]
 pub struct ShortDecimal {
     pub whole: i32,
     pub decimals: u32,
@@ -165,7 +167,7 @@ pub struct ShortDecimal {
 }
 
 // A short decimal and the next place, none, or the refusal Number.
-#[derive(Drop)]
+#[derive(Clone, Copy)]
 pub enum ShortAt {
     Absent(usize),
     Is(ShortDecimal, usize),
@@ -221,7 +223,7 @@ pub fn short_decimal(s: &[u8], at: usize) -> ShortAt
 }
 
 // A long decimal: its sign, its digits, their count of decimals, the same in billionths, and the nearest f64.
-#[derive(Drop)]
+#[derive(Clone, Copy)]
 pub struct LongDecimal {
     pub minus: bool,
     pub size: u64,
@@ -231,7 +233,7 @@ pub struct LongDecimal {
 }
 
 // A long decimal and the next place, none, or the refusal Number.
-#[derive(Drop)]
+#[derive(Clone, Copy)]
 pub enum LongAt {
     Absent(usize),
     Is(LongDecimal, usize),

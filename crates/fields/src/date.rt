@@ -6,7 +6,7 @@ ghost use Rattle.fields.specs.Answer.{calendared, date_read, date_at};
 
 use text::Whole;
 
-#[derive(Drop)]
+#[derive(Clone, Copy)]
 pub struct Day {
     pub year: u32,
     pub month: u32,
@@ -64,7 +64,7 @@ fn full_year(year: u32) -> u32
 }
 
 // A date, unless the calendar lacks it.
-#[derive(Drop)]
+#[derive(Clone, Copy)]
 pub enum Calendar {
     No,
     Is(Day),
@@ -93,7 +93,7 @@ fn on_calendar(day: u32, month: u32, year: u32) -> Calendar
 }
 
 // A date and the next place, or no match.
-#[derive(Drop)]
+#[derive(Clone, Copy)]
 pub enum DateRead {
     No,
     Is(Day, usize),
@@ -119,14 +119,14 @@ pub fn parse_date(s: &[u8], at: usize) -> DateRead
 }
 
 // A date that may be absent.
-#[derive(Drop)]
+#[derive(Clone, Copy)]
 pub enum DateHeld {
     Absent,
     Is(Day),
 }
 
 // A date that may be absent, and the next place; or no match.
-#[derive(Drop)]
+#[derive(Clone, Copy)]
 pub enum DateAt {
     No,
     Is(DateHeld, usize),

@@ -7,7 +7,7 @@ ghost use Rattle.fields.specs.Letter.{letter_place, unit_letter, unit_place};
 use text::{Letter, Next};
 
 // A letter that may be absent.
-#[derive(Drop)]
+#[derive(Clone, Copy)]
 pub enum LetterHeld {
     Absent,
     Is(u8),

@@ -1,6 +1,8 @@
 // Fields that are more than a number: time, date, position and magnetic variation, each of which may be absent, alone and with its comma;
 // letters, and units.
 // A reader follows the Rust's of its name: the parts from left to right, and the next place.
+#![tactic(auto)]
+
 mod date;
 mod letter;
 mod place;

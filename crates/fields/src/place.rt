@@ -60,14 +60,14 @@ pub fn position_place(s: &[u8], at: usize) -> PositionAt
 }
 
 // A short decimal that may be absent.
-#[derive(Drop)]
+#[derive(Clone, Copy)]
 pub enum ShortHeld {
     Absent,
     Is(ShortDecimal),
 }
 
 // A short decimal that may be absent, and the next place; no match; or the refusal Number.
-#[derive(Drop)]
+#[derive(Clone, Copy)]
 pub enum ShortPlace {
     No,
     Is(ShortHeld, usize),

@@ -11,7 +11,7 @@ use decimal::{LongAt, LongDecimal};
 use text::{Letter, Next, Whole};
 
 // A signed count of billionths of a minute, its letter, and the f64 in degrees.
-#[derive(Drop)]
+#[derive(Clone, Copy)]
 pub struct Coordinate {
     pub count: i64,
     pub letter: u8,
@@ -59,7 +59,7 @@ fn located(deg: u8, m: LongDecimal, letter: u8, minus: bool) -> Coordinate
 }
 
 // A coordinate and the next place, no match, or the refusal Number.
-#[derive(Drop)]
+#[derive(Clone, Copy)]
 pub enum SideAt {
     No,
     Is(Coordinate, usize),
@@ -107,14 +107,14 @@ fn longitude(s: &[u8], at: usize) -> SideAt
 }
 
 // Latitude and longitude.
-#[derive(Drop)]
+#[derive(Clone, Copy)]
 pub struct Both {
     pub lat: Coordinate,
     pub lon: Coordinate,
 }
 
 // Both coordinates and the next place, no match, or the refusal Number.
-#[derive(Drop)]
+#[derive(Clone, Copy)]
 pub enum BothAt {
     No,
     Is(Both, usize),
@@ -155,14 +155,14 @@ fn commas(s: &[u8], at: usize) -> Next
 }
 
 // A position that may be absent.
-#[derive(Drop)]
+#[derive(Clone, Copy)]
 pub enum PositionHeld {
     Absent,
     Is(Both),
 }
 
 // A position that may be absent, and the next place; no match; or the refusal Number.
-#[derive(Drop)]
+#[derive(Clone, Copy)]
 pub enum PositionAt {
     No,
     Is(PositionHeld, usize),

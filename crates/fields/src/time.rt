@@ -7,7 +7,7 @@ ghost use Rattle.fields.specs.Answer.{time_read, time_at};
 use decimal::{LongAt, LongDecimal};
 use text::Whole;
 
-#[derive(Drop)]
+#[derive(Clone, Copy)]
 pub struct TimeOfDay {
     pub hour: u32,
     pub minute: u32,
@@ -16,7 +16,7 @@ pub struct TimeOfDay {
 }
 
 // A time and the next place, no match, or a refusal.
-#[derive(Drop)]
+#[derive(Clone, Copy)]
 pub enum TimeRead {
     No,
     Is(TimeOfDay, usize),
@@ -78,14 +78,14 @@ pub fn parse_hms(s: &[u8], at: usize) -> TimeRead
 }
 
 // A time that may be absent.
-#[derive(Drop)]
+#[derive(Clone, Copy)]
 pub enum TimeHeld {
     Absent,
     Is(TimeOfDay),
 }
 
 // A time that may be absent, and the next place; no match; or a refusal.
-#[derive(Drop)]
+#[derive(Clone, Copy)]
 pub enum TimeAt {
     No,
     Is(TimeHeld, usize),

@@ -26,7 +26,7 @@ fn turned(d: ShortDecimal, west: bool) -> ShortDecimal
 }
 
 // A variation and the next place, no match, or the refusal Number.
-#[derive(Drop)]
+#[derive(Clone, Copy)]
 pub enum MagneticAt {
     No,
     Is(ShortDecimal, usize),

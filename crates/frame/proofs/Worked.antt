@@ -24,9 +24,9 @@ rows =
     ([], refused syntax_error)
     ∷ (replicate 102 (byte "x"), refused syntax_error)
     ∷ (replicate 103 (byte "x"), refused (too_long 103))
-    ∷ (0x_c3 ∷ 0x_a9 ∷ [], refused not_ascii)
-    ∷ (0x_c3 ∷ 0x28 ∷ [], refused bad_utf8)
-    ∷ (0x_eD ∷ 0x_a0 ∷ 0x80 ∷ [], refused bad_utf8)
+    ∷ (0xC3 ∷ 0xA9 ∷ [], refused not_ascii)
+    ∷ (0xC3 ∷ 0x28 ∷ [], refused bad_utf8)
+    ∷ (0xED ∷ 0xA0 ∷ 0x80 ∷ [], refused bad_utf8)
     ∷ (bytes "$GPGSA,A,1,,,,*32", accepted (record { talker = bytes "GP"; kind = bytes "GSA"; checksum = 0x32; from = 7; to = 14; text = bytes "A,1,,,," }))
     ∷ (bytes "$GPGSA,A,1,,,,*33", refused (bad_checksum 50 51))
     ∷ (bytes "$GPXYZ", refused unknown_type)
@@ -43,5 +43,5 @@ unfolding frame sized sentence sentence_type known checksum_field taken listed a
 worked = refl
 
 -- 299 times x, and the first byte of U+00E9: 1, not 3
-pub cut-line : frame (replicate 299 (byte "x") ++ (0x_c3 ∷ [])) ≡ refused bad_utf8
+pub cut-line : frame (replicate 299 (byte "x") ++ (0xC3 ∷ [])) ≡ refused bad_utf8
 cut-line = frame-bad _ cut-300

@@ -1,4 +1,6 @@
 // The frame of an NMEA sentence: `$`, talker, type, a comma, data, `*` and a checksum. What stands in it, or why it is refused.
+#![tactic(auto)]
+
 mod parse;
 mod pass;
 mod refusal;

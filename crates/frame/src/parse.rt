@@ -21,21 +21,21 @@ const DATA: usize = 7;
 const SHORTEST: usize = 10;
 
 // A framed sentence, or why there is none.
-#[derive(Drop)]
+#[derive(Clone, Copy)]
 pub enum Framed {
     Is(Sentence),
     Refused(Refusal),
 }
 
 // Two bytes, or no match.
-#[derive(Drop)]
+#[derive(Clone, Copy)]
 enum Two {
     No,
     Is(Talker),
 }
 
 // A known type, one that is unknown, or no match.
-#[derive(Drop)]
+#[derive(Clone, Copy)]
 enum Three {
     No,
     Unknown,
@@ -43,7 +43,7 @@ enum Three {
 }
 
 // A sentence whose checksum is not compared yet; an unknown type; or no match.
-#[derive(Drop)]
+#[derive(Clone, Copy)]
 enum Read {
     No,
     Unknown,
@@ -156,7 +156,7 @@ fn checked(s: &[u8]) -> Framed
 }
 
 // What the quick way tells of a line: its frame; or it is unsure, and the line has to be checked.
-#[derive(Drop)]
+#[derive(Clone, Copy)]
 enum Quick {
     Unsure,
     Is(Framed),

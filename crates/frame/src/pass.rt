@@ -7,7 +7,7 @@ ghost use Rattle.frame.specs.Code.{marked};
 
 use crate::star::mark;
 
-#[derive(Drop)]
+#[derive(Clone, Copy)]
 pub(crate) struct Pass {
     pub sum: u8,
     pub star: u8,

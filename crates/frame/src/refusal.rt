@@ -3,15 +3,15 @@ ghost use Rattle.std.specs.Prelude.{◌≡◌};
 ghost use Rattle.frame.specs.Answer.{number_of};
 
 // The two bytes that name who sends.
-#[derive(Drop)]
+#[derive(Clone, Copy)]
 pub struct Talker(pub u8, pub u8);
 
 // The three letters of a sentence's type.
-#[derive(Drop)]
+#[derive(Clone, Copy)]
 pub struct Kind(pub u8, pub u8, pub u8);
 
 // Each refusal, with what it carries.
-#[derive(Drop)]
+#[derive(Clone, Copy)]
 pub enum Refusal {
     BadUtf8,
     NotAscii,

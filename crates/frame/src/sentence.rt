@@ -7,7 +7,7 @@ ghost use Rattle.frame.specs.Code.{Begins};
 use crate::refusal::{Kind, Talker};
 
 // `$GPGSA,A,1,,,,*32` has the talker GP, the type GSA, the checksum 0x32, and its data `A,1,,,,` from 7 up to 14.
-#[derive(Drop)]
+#[derive(Clone, Copy)]
 pub struct Sentence {
     pub talker: Talker,
     pub kind: Kind,
@@ -71,7 +71,7 @@ fn same(kind: Kind, t: [u8; 3]) -> bool
 }
 
 // A part of the table of types: its first place, and the place after it.
-#[derive(Drop)]
+#[derive(Clone, Copy)]
 struct Range {
     from: usize,
     to: usize,

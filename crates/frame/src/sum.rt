@@ -9,7 +9,7 @@ ghost use Rattle.frame.specs.Code.{or_sixteen};
 ghost use Rattle.frame.specs.Answer.{field};
 
 // The two digits' number, or no match.
-#[derive(Drop)]
+#[derive(Clone, Copy)]
 pub enum Digits {
     No,
     Is(u8),

@@ -174,7 +174,7 @@ fn size_at(row: &[u32], i: usize) -> usize
 }
 
 // Lines begun, and the entries and bytes of the last.
-#[derive(Drop)]
+#[derive(Clone, Copy)]
 struct Pile {
     lines: usize,
     count: usize,

@@ -15,7 +15,7 @@ use gsv::{GsvData, GsvHead, GsvRecord, Slot};
 use text::Held;
 
 // How many entries stand before a line that starts a run or goes on with one; `runs` is false where it does neither.
-#[derive(Drop)]
+#[derive(Clone, Copy)]
 pub struct Before {
     pub runs: bool,
     pub count: usize,
@@ -106,7 +106,7 @@ fn put_slots(row: &mut [u32], k: usize, d: GsvData) -> usize
 }
 
 // What a line did to its row. Complete: until the next line of its key the row's n, in-view count, count and cells are the group.
-#[derive(Drop)]
+#[derive(Clone, Copy)]
 pub enum Outcome {
     NoRow,
     Nothing,

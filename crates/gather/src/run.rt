@@ -10,7 +10,7 @@ use crate::{lent, table};
 use gsv::{GsvHead, GsvTalker};
 
 // n, the number waited for, 0 where no run stands, and the in-view count.
-#[derive(Drop)]
+#[derive(Clone, Copy)]
 pub struct Run {
     pub n: u32,
     pub next: u32,
@@ -18,7 +18,7 @@ pub struct Run {
 }
 
 // A run after a line, and what the line did.
-#[derive(Drop)]
+#[derive(Clone, Copy)]
 pub struct RunAfter {
     pub run: Run,
     pub handed: Outcome,

@@ -17,7 +17,7 @@ pub const ROWS: usize = 6;
 pub const WORDS: usize = ROWS * lent::ROW;
 
 // What a run, and so a group, is gathered from.
-#[derive(Drop)]
+#[derive(Clone, Copy)]
 pub struct Source {
     pub system: GnssType,
 }

@@ -1,5 +1,7 @@
 // GGA, a fix and its height: the reader of its data, from left to right.
 // Each field up to the geoid has a comma after it; what follows is ignored.
+#![tactic(auto)]
+
 ghost use Rattle.std.specs.Prelude.{◌≡◌};
 ghost use Rattle.text.specs.Placed.{Reads};
 ghost use Rattle.text.specs.Value.{value};
@@ -13,7 +15,7 @@ use text::{Held, Letter, Next};
 const SATELLITES: u32 = 4294967295;
 
 // A count that may be absent and the next place, or no match.
-#[derive(Drop)]
+#[derive(Clone, Copy)]
 pub enum SatellitesAt {
     No,
     Is(Held, usize),
@@ -32,7 +34,7 @@ fn satellites_place(s: &[u8], at: usize) -> SatellitesAt
 }
 
 // Time, position, fix and satellites.
-#[derive(Drop)]
+#[derive(Clone, Copy)]
 pub struct Fix {
     pub time: TimeHeld,
     pub position: PositionHeld,
@@ -40,7 +42,7 @@ pub struct Fix {
     pub satellites: Held,
 }
 
-#[derive(Drop)]
+#[derive(Clone, Copy)]
 pub enum FixAt {
     No,
     Is(Fix, usize),
@@ -80,14 +82,14 @@ fn fix_part(s: &[u8], at: usize) -> FixAt
 }
 
 // Dilution, altitude and geoid.
-#[derive(Drop)]
+#[derive(Clone, Copy)]
 pub struct Height {
     pub hdop: ShortHeld,
     pub altitude: ShortHeld,
     pub geoid: ShortHeld,
 }
 
-#[derive(Drop)]
+#[derive(Clone, Copy)]
 pub enum HeightAt {
     No,
     Is(Height, usize),
@@ -128,14 +130,14 @@ fn height_part(s: &[u8], at: usize) -> HeightAt
 }
 
 // The data of a GGA sentence.
-#[derive(Drop)]
+#[derive(Clone, Copy)]
 pub struct GgaData {
     pub fix: Fix,
     pub height: Height,
 }
 
 // The data, or a refusal.
-#[derive(Drop)]
+#[derive(Clone, Copy)]
 pub enum GgaRead {
     Syntax,
     Is(GgaData),

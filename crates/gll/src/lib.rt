@@ -1,5 +1,7 @@
 // GLL, a position and its time: the reader of its data, from left to right.
 // Each field but the mode has a comma after it; what follows the mode is ignored.
+#![tactic(auto)]
+
 ghost use Rattle.std.specs.Prelude.{◌≡◌};
 ghost use Rattle.text.specs.Placed.{Reads};
 ghost use Rattle.text.specs.Value.{value};
@@ -10,7 +12,7 @@ use fields::{LetterHeld, PositionAt, PositionHeld, TimeAt, TimeHeld};
 use text::Letter;
 
 // A mode that may be absent and the next place, or no match.
-#[derive(Drop)]
+#[derive(Clone, Copy)]
 pub enum ModeAt {
     No,
     Is(LetterHeld, usize),
@@ -30,7 +32,7 @@ fn mode(s: &[u8], at: usize) -> ModeAt
 }
 
 // The data of a GLL sentence.
-#[derive(Drop)]
+#[derive(Clone, Copy)]
 pub struct GllData {
     pub position: PositionHeld,
     pub time: TimeHeld,
@@ -39,7 +41,7 @@ pub struct GllData {
 }
 
 // The data, or a refusal.
-#[derive(Drop)]
+#[derive(Clone, Copy)]
 pub enum GllRead {
     Syntax,
     Is(GllData),

@@ -1,5 +1,7 @@
 // The data of a GSA sentence: mode, fix, the satellites in use, their dilutions of precision, the system; and the rule
 // that settles the system between talker and tail. The satellites stand in an array beside the answer.
+#![tactic(auto)]
+
 ghost use Rattle.std.specs.Prelude.{◌≡◌};
 ghost use Rattle.text.specs.Bytes.{byte};
 ghost use Rattle.text.specs.Placed.{Reads};
@@ -30,35 +32,35 @@ const ITEM_MAX: u32 = 4294967295;
 const SYSTEM_MAX: u32 = 255;
 
 // A system that may be absent.
-#[derive(Drop)]
+#[derive(Clone, Copy)]
 pub enum System {
     Absent,
     Is(u8),
 }
 
 // A system that may be absent, and the next place.
-#[derive(Drop)]
+#[derive(Clone, Copy)]
 struct SystemAt {
     pub value: System,
     pub at: usize,
 }
 
 // The end of the data with the system before it, or no match.
-#[derive(Drop)]
+#[derive(Clone, Copy)]
 enum Ending {
     No,
     Is(System, usize),
 }
 
 // An item and the next place, or no match.
-#[derive(Drop)]
+#[derive(Clone, Copy)]
 enum Item {
     No,
     Is(Held, usize),
 }
 
 // The satellites of the items that are kept: the first `count` cells, the others zero. And the next place.
-#[derive(Drop)]
+#[derive(Clone, Copy)]
 struct PrnsAt {
     pub satellites: [u32; SATELLITES],
     pub count: usize,
@@ -66,7 +68,7 @@ struct PrnsAt {
 }
 
 // A dilution of precision and the next place, no match, or the refusal Number.
-#[derive(Drop)]
+#[derive(Clone, Copy)]
 enum DopAt {
     No,
     Number,
@@ -74,7 +76,7 @@ enum DopAt {
 }
 
 // In space, on the ground, in height, and the next place; no match; or the refusal Number.
-#[derive(Drop)]
+#[derive(Clone, Copy)]
 enum DopsAt {
     No,
     Number,
@@ -82,14 +84,14 @@ enum DopsAt {
 }
 
 // In space, on the ground, in height: all three or none.
-#[derive(Drop)]
+#[derive(Clone, Copy)]
 pub enum Dops {
     Absent,
     Are(ShortDecimal, ShortDecimal, ShortDecimal),
 }
 
 // The dilutions, the system and the next place, no match, or the refusal Number.
-#[derive(Drop)]
+#[derive(Clone, Copy)]
 enum TailAnswer {
     No,
     Number,
@@ -97,7 +99,7 @@ enum TailAnswer {
 }
 
 // What stands after mode and fix, with its satellites.
-#[derive(Drop)]
+#[derive(Clone, Copy)]
 struct TailRead {
     pub answer: TailAnswer,
     pub satellites: [u32; SATELLITES],
@@ -105,7 +107,7 @@ struct TailRead {
 }
 
 // A GSA record but for its satellites. Mode and fix are bytes as they stand: M or A, and 1, 2 or 3.
-#[derive(Drop)]
+#[derive(Clone, Copy)]
 pub struct GsaHead {
     pub mode: u8,
     pub fix: u8,
@@ -113,7 +115,7 @@ pub struct GsaHead {
     pub system: System,
 }
 
-#[derive(Drop)]
+#[derive(Clone, Copy)]
 pub enum GsaAnswer {
     Syntax,
     Number,
@@ -121,7 +123,7 @@ pub enum GsaAnswer {
 }
 
 // The answer, and beside it the satellites of its record: the first `count` cells. Each other cell is zero.
-#[derive(Drop)]
+#[derive(Clone, Copy)]
 pub struct GsaRead {
     pub answer: GsaAnswer,
     pub satellites: [u32; SATELLITES],
@@ -129,7 +131,7 @@ pub struct GsaRead {
 }
 
 // The system of a sentence, which may be absent; or two that differ: the talker's and the tail's.
-#[derive(Drop)]
+#[derive(Clone, Copy)]
 pub enum Settled {
     Is(System),
     Mismatch(u8, u8),

@@ -1,5 +1,7 @@
 // GSV, satellites in view: its talkers with their systems, and the reader of its data.
 // The data: sentences of the group, which of them this is, satellites in view, and four entries.
+#![tactic(auto)]
+
 ghost use Rattle.std.specs.Prelude.{◌≡◌, drop};
 ghost use Rattle.text.specs.Bytes.{byte};
 ghost use Rattle.text.specs.Reader.{opt};
@@ -20,7 +22,7 @@ pub const ID_MAX: u32 = 4294967295;
 pub const PLACE_MAX: u32 = 2147483647;
 
 // The talkers of GSV.
-#[derive(Drop)]
+#[derive(Clone, Copy)]
 pub enum GsvTalker {
     Ga,
     Gp,
@@ -34,7 +36,7 @@ pub enum GsvTalker {
 }
 
 // The talker that two letters are, if they are one.
-#[derive(Drop)]
+#[derive(Clone, Copy)]
 pub enum TalkerOf {
     Unknown,
     Is(GsvTalker),
@@ -94,7 +96,7 @@ pub fn talker_of(a: u8, b: u8) -> TalkerOf
 }
 
 // A talker's two letters.
-#[derive(Drop)]
+#[derive(Clone, Copy)]
 pub struct Letters(pub u8, pub u8);
 
 pub fn letters_of(t: GsvTalker) -> Letters
@@ -114,7 +116,7 @@ pub fn letters_of(t: GsvTalker) -> Letters
 }
 
 // The system that satellites belong to.
-#[derive(Drop)]
+#[derive(Clone, Copy)]
 pub enum GnssType {
     Gps,
     Glonass,
@@ -179,7 +181,7 @@ fn counted(s: &[u8], at: usize, max: u32) -> Whole
 }
 
 // A number that may be absent and the next place, or no match.
-#[derive(Drop)]
+#[derive(Clone, Copy)]
 pub enum Cell {
     No,
     Is(Held, usize),
@@ -199,7 +201,7 @@ fn in_cell(s: &[u8], at: usize, max: u32) -> Cell
 }
 
 // A satellite in view.
-#[derive(Drop)]
+#[derive(Clone, Copy)]
 pub struct SatInfo {
     pub id: u32,
     pub elevation: Held,
@@ -208,7 +210,7 @@ pub struct SatInfo {
 }
 
 // A satellite and the next place, or no match.
-#[derive(Drop)]
+#[derive(Clone, Copy)]
 pub enum EntryAt {
     No,
     Is(SatInfo, usize),
@@ -245,14 +247,14 @@ fn parse_gsv_sat_info(s: &[u8], at: usize) -> EntryAt
 }
 
 // A satellite that may be absent.
-#[derive(Drop)]
+#[derive(Clone, Copy)]
 pub enum Slot {
     Empty,
     Seen(SatInfo),
 }
 
 // A satellite that may be absent, and the next place.
-#[derive(Drop)]
+#[derive(Clone, Copy)]
 pub struct SlotAt {
     pub slot: Slot,
     pub at: usize,
@@ -275,7 +277,7 @@ fn opt_entry(s: &[u8], at: usize) -> SlotAt
 }
 
 // Sentences of the group, which of them this is, and satellites in view: what stands in front of the entries.
-#[derive(Drop)]
+#[derive(Clone, Copy)]
 pub struct GsvHead {
     pub count: u32,
     pub index: u32,
@@ -283,7 +285,7 @@ pub struct GsvHead {
 }
 
 // A head and the place of the first entry, or no match.
-#[derive(Drop)]
+#[derive(Clone, Copy)]
 pub enum HeadAt {
     No,
     Is(GsvHead, usize),
@@ -313,7 +315,7 @@ pub fn do_parse_head(s: &[u8]) -> HeadAt
 }
 
 // The data of a GSV sentence.
-#[derive(Drop)]
+#[derive(Clone, Copy)]
 pub struct GsvData {
     pub count: u32,
     pub index: u32,
@@ -351,7 +353,7 @@ pub fn with_entries(s: &[u8], at: usize, h: GsvHead) -> GsvData
 }
 
 // The data, or the refusal Syntax.
-#[derive(Drop)]
+#[derive(Clone, Copy)]
 pub enum GsvRead {
     Syntax,
     Is(GsvData),
@@ -368,7 +370,7 @@ pub fn do_parse_gsv(s: &[u8]) -> GsvRead
 }
 
 // A GSV sentence: one of its talkers, and the data.
-#[derive(Drop)]
+#[derive(Clone, Copy)]
 pub struct GsvRecord {
     pub talker: GsvTalker,
     pub data: GsvData,

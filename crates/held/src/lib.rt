@@ -1,4 +1,6 @@
 // The framed sentence as a struct that holds its data, a part of the caller's line.
+#![tactic(auto)]
+
 ghost use Rattle.std.specs.Prelude.{◌≡◌};
 ghost use Rattle.frame.specs.Frame.{frame};
 ghost use Rattle.frame.specs.Answer.{data_of};
@@ -7,7 +9,7 @@ ghost use Rattle.held.specs.Answer.{sum_of, summed};
 
 use frame::{Framed, Kind, Refusal, Sentence, Talker};
 
-#[derive(Drop)]
+#[derive(Clone, Copy)]
 pub struct NmeaSentence<'a> {
     pub talker: Talker,
     pub kind: Kind,
@@ -60,7 +62,7 @@ pub fn line_checksum(line: &[u8], framed: Sentence) -> u8
 }
 
 // The checksum calculated, or why the line is refused.
-#[derive(Drop)]
+#[derive(Clone, Copy)]
 pub enum Calculated {
     Is(u8),
     Refused(Refusal),

@@ -1,6 +1,8 @@
 // One line, taken: framing, the reader of its type, its words, and what it does to the gatherer. The refusal, the whole answer, the
 // gatherer and the walk all stand on this one way, so that the compiler makes one function of it; who wants no words or no table lends
 // none, and then no entry of a GSV line is read.
+#![tactic(auto)]
+
 ghost use Rattle.std.specs.Prelude.{◌≡◌, ◌≤◌, ◌||◌, length, ◌==◌, nat_le};
 ghost use Rattle.frame.specs.Answer.{parts};
 ghost use Rattle.answer.specs.Sentence.{rmc_of, gsa_of, gsv_of, gga_of, gll_of, vtg_of, dispatch, answer};
@@ -20,7 +22,7 @@ use sentence::Formatter;
 use vtg::VtgRead;
 
 // A line in brief: accepted; an accepted GSV line, with what stands in front of its entries and what it did to its row; or refused.
-#[derive(Drop)]
+#[derive(Clone, Copy)]
 pub enum Taken {
     Accepted,
     Gsv(GsvTalker, GsvHead, Outcome),

@@ -107,7 +107,7 @@ fn line_next(log: &[u8], end: usize) -> usize
 }
 
 // Where the bytes of a line end, and where the next line begins.
-#[derive(Drop)]
+#[derive(Clone, Copy)]
 pub(crate) struct Bounds {
     pub cut: usize,
     pub next: usize,
@@ -125,14 +125,14 @@ pub(crate) fn bounds_at(log: &[u8], at: usize) -> Bounds
 }
 
 // What a line of the log is.
-#[derive(Drop)]
+#[derive(Clone, Copy)]
 pub enum Line {
     Blank,
     Read(Record),
 }
 
 // The line at a place, the satellites beside its answer, and the place after it.
-#[derive(Drop)]
+#[derive(Clone, Copy)]
 pub struct LineAt {
     pub line: Line,
     pub satellites: [u32; gsa::SATELLITES],

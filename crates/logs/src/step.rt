@@ -11,7 +11,7 @@ use frame::Refusal;
 use gather::line::Outcome;
 
 // A refusal alone, the end, or a line and the next place.
-#[derive(Drop)]
+#[derive(Clone, Copy)]
 pub enum Stepped {
     Refused(Refusal),
     End(usize),
@@ -19,7 +19,7 @@ pub enum Stepped {
 }
 
 // One step's answer. Where its row is complete, the words of the row are the group.
-#[derive(Drop)]
+#[derive(Clone, Copy)]
 pub struct StepAnswer {
     pub stepped: Stepped,
     pub satellites: [u32; gsa::SATELLITES],

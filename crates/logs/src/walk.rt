@@ -14,7 +14,7 @@ use gather::line::Outcome;
 use gather::run;
 
 // What was counted, and the place where the next line begins.
-#[derive(Drop)]
+#[derive(Clone, Copy)]
 pub struct Counts {
     pub lines: usize,
     pub blank: usize,
@@ -25,14 +25,14 @@ pub struct Counts {
 }
 
 // A refusal alone, or the counts.
-#[derive(Drop)]
+#[derive(Clone, Copy)]
 pub enum Walked {
     Refused(Refusal),
     Went(Counts),
 }
 
 // What a line counts as.
-#[derive(Drop)]
+#[derive(Clone, Copy)]
 pub enum Sort {
     Blank,
     Accepted,
@@ -103,7 +103,7 @@ fn is_handed(o: Outcome) -> bool
 }
 
 // What the line at a place counts as, whether it hands out a group, and the place after it.
-#[derive(Drop)]
+#[derive(Clone, Copy)]
 pub struct LineTaken {
     pub sort: Sort,
     pub handed: bool,

@@ -1,1 +1,3 @@
 // No second answer meets a contract: see proofs/.
+#![tactic(auto)]
+

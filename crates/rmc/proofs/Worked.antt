@@ -29,7 +29,7 @@ pub variation-west :
       fix = record { time = none; status = byte "V"; position = none };
       motion = nothing;
       ending = record {
-        variation = some (record { whole = neg_ℤ (pos 31); decimals = 1; value = of_bits binary32 0x_c0466666 });
+        variation = some (record { whole = neg_ℤ (pos 31); decimals = 1; value = of_bits binary32 0xC0466666 });
         letters = record { mode = none; status = none };
       };
     })

@@ -1,5 +1,7 @@
 // RMC, the recommended minimum of a fix: the reader of its data, from left to right.
 // Each field up to the date has a comma after it; of what follows, as much is read as stands there.
+#![tactic(auto)]
+
 ghost use Rattle.std.specs.Prelude.{◌≡◌};
 ghost use Rattle.text.specs.Placed.{Reads};
 ghost use Rattle.text.specs.Value.{value};
@@ -12,7 +14,7 @@ use fields::{
 use text::{Letter, Next};
 
 // A letter that may be absent, and the next place.
-#[derive(Drop)]
+#[derive(Clone, Copy)]
 pub struct LetterField {
     pub letter: LetterHeld,
     pub at: usize,
@@ -41,14 +43,14 @@ fn after_comma(s: &[u8], at: usize, letters: &[u8]) -> LetterField
 }
 
 // Time, status and position.
-#[derive(Drop)]
+#[derive(Clone, Copy)]
 pub struct Fix {
     pub time: TimeHeld,
     pub status: u8,
     pub position: PositionHeld,
 }
 
-#[derive(Drop)]
+#[derive(Clone, Copy)]
 pub enum FixAt {
     No,
     Is(Fix, usize),
@@ -84,14 +86,14 @@ fn fix_part(s: &[u8], at: usize) -> FixAt
 }
 
 // Speed, course and date.
-#[derive(Drop)]
+#[derive(Clone, Copy)]
 pub struct Motion {
     pub speed: ShortHeld,
     pub course: ShortHeld,
     pub date: DateHeld,
 }
 
-#[derive(Drop)]
+#[derive(Clone, Copy)]
 pub enum MotionAt {
     No,
     Is(Motion, usize),
@@ -125,13 +127,13 @@ fn motion_part(s: &[u8], at: usize) -> MotionAt
 }
 
 // Mode and navigational status, which may stand behind the variation.
-#[derive(Drop)]
+#[derive(Clone, Copy)]
 pub struct Letters {
     pub mode: LetterHeld,
     pub status: LetterHeld,
 }
 
-#[derive(Drop)]
+#[derive(Clone, Copy)]
 pub struct LettersAt {
     pub letters: Letters,
     pub at: usize,
@@ -155,13 +157,13 @@ fn letters_part(s: &[u8], at: usize) -> LettersAt
 }
 
 // Variation and the letters behind it.
-#[derive(Drop)]
+#[derive(Clone, Copy)]
 pub struct Ending {
     pub variation: ShortHeld,
     pub letters: Letters,
 }
 
-#[derive(Drop)]
+#[derive(Clone, Copy)]
 pub enum EndingAt {
     No,
     Is(Ending, usize),
@@ -189,7 +191,7 @@ fn ending_part(s: &[u8], at: usize) -> EndingAt
 }
 
 // The data of an RMC sentence.
-#[derive(Drop)]
+#[derive(Clone, Copy)]
 pub struct RmcData {
     pub fix: Fix,
     pub motion: Motion,
@@ -197,7 +199,7 @@ pub struct RmcData {
 }
 
 // The data, or a refusal.
-#[derive(Drop)]
+#[derive(Clone, Copy)]
 pub enum RmcRead {
     Syntax,
     Is(RmcData),

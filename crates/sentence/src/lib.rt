@@ -1,4 +1,6 @@
 // A line's whole answer: framing, then the reader of its type. Every byte string has one.
+#![tactic(auto)]
+
 ghost use Rattle.std.specs.Prelude.{◌≡◌, [], ◌≤◌, length};
 ghost use Rattle.text.specs.Bytes.{bytes};
 ghost use Rattle.frame.specs.Types.{alike};
@@ -28,49 +30,49 @@ const GLL: Kind = Kind(b'G', b'L', b'L');
 const VTG: Kind = Kind(b'V', b'T', b'G');
 
 // An RMC sentence: its talker and its data.
-#[derive(Drop)]
+#[derive(Clone, Copy)]
 pub struct RmcRecord {
     pub talker: Talker,
     pub data: RmcData,
 }
 
 // A GSA sentence: its talker and its data, but for the satellites; the system is settled between talker and tail.
-#[derive(Drop)]
+#[derive(Clone, Copy)]
 pub struct GsaRecord {
     pub talker: Talker,
     pub head: GsaHead,
 }
 
 // A GGA sentence: its talker and its data.
-#[derive(Drop)]
+#[derive(Clone, Copy)]
 pub struct GgaRecord {
     pub talker: Talker,
     pub data: GgaData,
 }
 
 // A GLL sentence: its talker and its data.
-#[derive(Drop)]
+#[derive(Clone, Copy)]
 pub struct GllRecord {
     pub talker: Talker,
     pub data: GllData,
 }
 
 // A VTG sentence: its talker and its data.
-#[derive(Drop)]
+#[derive(Clone, Copy)]
 pub struct VtgRecord {
     pub talker: Talker,
     pub data: VtgData,
 }
 
 // A sentence of a known type that we do not read.
-#[derive(Drop)]
+#[derive(Clone, Copy)]
 pub struct OtherRecord {
     pub talker: Talker,
     pub kind: Kind,
 }
 
 // A record, the name of a known type that we do not read, or a refusal.
-#[derive(Drop)]
+#[derive(Clone, Copy)]
 pub enum Record {
     Rmc(RmcRecord),
     Gsa(GsaRecord),
@@ -83,7 +85,7 @@ pub enum Record {
 }
 
 // A line's answer; the satellites of a GSA record are the first `count` cells. Every other cell is zero.
-#[derive(Drop)]
+#[derive(Clone, Copy)]
 pub struct ParseResult {
     pub answer: Record,
     pub satellites: [u32; gsa::SATELLITES],
@@ -230,7 +232,7 @@ fn same(a: Kind, b: Kind) -> bool
 }
 
 // The types that we read, and the others.
-#[derive(Drop)]
+#[derive(Clone, Copy)]
 pub enum Formatter {
     Rmc,
     Gsa,

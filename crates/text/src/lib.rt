@@ -1,5 +1,7 @@
 // Reading from the front of a text: a byte, a letter, whole numbers, the text up to a byte.
 // Each reader takes the whole text and a place in it, and answers the next place; past the end nothing stands.
+#![tactic(auto)]
+
 ghost use Rattle.std.specs.Prelude.{◌≡◌};
 ghost use Rattle.text.specs.Reader.{char, one_of, among, letter_of, opt, until};
 ghost use Rattle.text.specs.Placed.{Reads};
@@ -8,35 +10,35 @@ ghost use Rattle.text.specs.Code.{unit};
 ghost use Rattle.text.specs.Answer.{whole_at, next, part, lettered, field};
 
 // The next place, or no match.
-#[derive(Drop)]
+#[derive(Clone, Copy)]
 pub enum Next {
     No,
     At(usize),
 }
 
 // A whole number and the next place, or no match.
-#[derive(Drop)]
+#[derive(Clone, Copy)]
 pub enum Whole {
     No,
     Is(u32, usize),
 }
 
 // A letter and the next place, or no match.
-#[derive(Drop)]
+#[derive(Clone, Copy)]
 pub enum Letter {
     No,
     Is(u8, usize),
 }
 
 // A number that may be absent.
-#[derive(Drop)]
+#[derive(Clone, Copy)]
 pub enum Held {
     Absent,
     Known(u32),
 }
 
 // A number that may be absent, and the next place.
-#[derive(Drop)]
+#[derive(Clone, Copy)]
 pub struct Field {
     pub value: Held,
     pub at: usize,

@@ -17,7 +17,7 @@ abbrev named : State → Utf8
 named none = Broken
 named (some []) = Whole
 named (some (r ∷ [])) = Tail1
-named (some (r ∷ q ∷ [])) = cond (eqb r.0 0x_a0) AfterE0 (cond (eqb r.1 0x9_f) AfterED Tail2)
+named (some (r ∷ q ∷ [])) = cond (eqb r.0 0xA0) AfterE0 (cond (eqb r.1 0x9_f) AfterED Tail2)
 named (some (r ∷ q ∷ p ∷ rs)) = cond (eqb r.0 0x90) AfterF0 (cond (eqb r.1 0x8_f) AfterF4 Tail3)
 
 named-pending : (u : Utf8) → named (pending u) ≡ u
@@ -39,14 +39,14 @@ pending-injective u v e = sym (named-pending u) ∙ ap named e ∙ named-pending
 pub state-text : (u : Utf8) → (l : List ℕ) × (after (some []) l ≡ pending u)
 unfolding after step follow
 state-text Whole = ([], refl)
-state-text Broken = (0x_fF ∷ [], refl)
-state-text Tail1 = (0x_c2 ∷ [], refl)
-state-text Tail2 = (0x_e1 ∷ [], refl)
-state-text Tail3 = (0x_f1 ∷ [], refl)
-state-text AfterE0 = (0x_e0 ∷ [], refl)
-state-text AfterED = (0x_eD ∷ [], refl)
-state-text AfterF0 = (0x_f0 ∷ [], refl)
-state-text AfterF4 = (0x_f4 ∷ [], refl)
+state-text Broken = (0xFF ∷ [], refl)
+state-text Tail1 = (0xC2 ∷ [], refl)
+state-text Tail2 = (0xE1 ∷ [], refl)
+state-text Tail3 = (0xF1 ∷ [], refl)
+state-text AfterE0 = (0xE0 ∷ [], refl)
+state-text AfterED = (0xED ∷ [], refl)
+state-text AfterF0 = (0xF0 ∷ [], refl)
+state-text AfterF4 = (0xF4 ∷ [], refl)
 
 abbrev Named : List Range → Type 0
 Named [] = Unit {0}
@@ -77,9 +77,9 @@ step-state Broken b = (Broken, refl)
 step-state Tail1 b = tail-state (within utf8_tail b) Whole
 step-state Tail2 b = tail-state (within utf8_tail b) Tail1
 step-state Tail3 b = tail-state (within utf8_tail b) Tail2
-step-state AfterE0 b = tail-state (within (0x_a0, 0x_bF) b) Tail1
+step-state AfterE0 b = tail-state (within (0xA0, 0xBF) b) Tail1
 step-state AfterED b = tail-state (within (0x80, 0x9_f) b) Tail1
-step-state AfterF0 b = tail-state (within (0x90, 0x_bF) b) Tail2
+step-state AfterF0 b = tail-state (within (0x90, 0xBF) b) Tail2
 step-state AfterF4 b = tail-state (within (0x80, 0x8_f) b) Tail2
 
 -- each text, from any state, leaves one of the states

@@ -1,5 +1,7 @@
 // Valid UTF-8 by RFC 3629, section 4: a state and a step for one byte, so that a text may come in pieces of any size, and the check of
 // a whole text, which is a step for each of its bytes. Also whether a text is ASCII.
+#![tactic(auto)]
+
 ghost use Rattle.std.specs.Prelude.{max, ◌≡◌, cond};
 ghost use Rattle.std.proofs.Math.Option.{none};
 ghost use Rattle.utf8.specs.Rfc3629.{utf8_char};
@@ -7,17 +9,17 @@ ghost use Rattle.utf8.specs.Utf8.{within, follow, step, may_end, utf8, ascii};
 ghost use Rattle.utf8.specs.Answer.{pending};
 
 // What the bytes so far leave open. Each of the nine is left by some bytes, and bytes leave no other; a text begins at `Whole`.
-#[derive(Drop)]
+#[derive(Clone, Copy)]
 pub enum Utf8 {
     // Only whole characters so far.
     Whole,
     // No bytes that follow make the text valid.
     Broken,
-    // So many bytes must follow, each from 0x80 to 0x_bF.
+    // So many bytes must follow, each from 0x80 to 0xBF.
     Tail1,
     Tail2,
     Tail3,
-    // After this first byte two bytes must follow, three after 0x_f0 and 0x_f4, and the next one has a narrower range.
+    // After this first byte two bytes must follow, three after 0xF0 and 0xF4, and the next one has a narrower range.
     AfterE0,
     AfterED,
     AfterF0,
@@ -30,14 +32,14 @@ fn lead(b: u8) -> Utf8
 {
     match b {
         0x00..=0x7_f => Utf8::Whole,
-        0x_c2..=0x_dF => Utf8::Tail1,
-        0x_e0 => Utf8::AfterE0,
-        0x_e1..=0x_eC => Utf8::Tail2,
-        0x_eD => Utf8::AfterED,
-        0x_eE..=0x_eF => Utf8::Tail2,
-        0x_f0 => Utf8::AfterF0,
-        0x_f1..=0x_f3 => Utf8::Tail3,
-        0x_f4 => Utf8::AfterF4,
+        0xC2..=0xDF => Utf8::Tail1,
+        0xE0 => Utf8::AfterE0,
+        0xE1..=0xEC => Utf8::Tail2,
+        0xED => Utf8::AfterED,
+        0xEE..=0xEF => Utf8::Tail2,
+        0xF0 => Utf8::AfterF0,
+        0xF1..=0xF3 => Utf8::Tail3,
+        0xF4 => Utf8::AfterF4,
         _ => Utf8::Broken,
     }
 }
@@ -62,12 +64,12 @@ pub fn step(state: Utf8, b: u8) -> Utf8
     match state {
         Utf8::Whole => lead(b),
         Utf8::Broken => Utf8::Broken,
-        Utf8::Tail1 => within(b, 0x80, 0x_bF, Utf8::Whole),
-        Utf8::Tail2 => within(b, 0x80, 0x_bF, Utf8::Tail1),
-        Utf8::Tail3 => within(b, 0x80, 0x_bF, Utf8::Tail2),
-        Utf8::AfterE0 => within(b, 0x_a0, 0x_bF, Utf8::Tail1),
+        Utf8::Tail1 => within(b, 0x80, 0xBF, Utf8::Whole),
+        Utf8::Tail2 => within(b, 0x80, 0xBF, Utf8::Tail1),
+        Utf8::Tail3 => within(b, 0x80, 0xBF, Utf8::Tail2),
+        Utf8::AfterE0 => within(b, 0xA0, 0xBF, Utf8::Tail1),
         Utf8::AfterED => within(b, 0x80, 0x9_f, Utf8::Tail1),
-        Utf8::AfterF0 => within(b, 0x90, 0x_bF, Utf8::Tail2),
+        Utf8::AfterF0 => within(b, 0x90, 0xBF, Utf8::Tail2),
         Utf8::AfterF4 => within(b, 0x80, 0x8_f, Utf8::Tail2),
     }
 }

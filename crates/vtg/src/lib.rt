@@ -1,5 +1,7 @@
 // VTG, course and speed over ground: the reader of its data, from left to right.
 // Each field up to that of the N has a comma after it; what follows is ignored.
+#![tactic(auto)]
+
 ghost use Rattle.std.specs.Prelude.{◌≡◌};
 ghost use Rattle.text.specs.Placed.{Reads};
 ghost use Rattle.text.specs.Value.{value};
@@ -37,7 +39,7 @@ fn courses_part(s: &[u8], at: usize) -> ShortPlace
 }
 
 // A speed as it is written, the letter of its unit, and the f32 in knots.
-#[derive(Drop)]
+#[derive(Clone, Copy)]
 pub struct Speed {
     pub written: ShortDecimal,
     pub unit: u8,
@@ -45,7 +47,7 @@ pub struct Speed {
 }
 
 // A speed that may be absent.
-#[derive(Drop)]
+#[derive(Clone, Copy)]
 pub enum SpeedHeld {
     Absent,
     Is(Speed),
@@ -83,7 +85,7 @@ fn speed_of(knots: ShortHeld, kmh: ShortHeld) -> SpeedHeld
 }
 
 // A speed that may be absent, and the next place; no match; or the refusal Number.
-#[derive(Drop)]
+#[derive(Clone, Copy)]
 pub enum SpeedAt {
     No,
     Is(SpeedHeld, usize),
@@ -111,14 +113,14 @@ fn speed_part(s: &[u8], at: usize) -> SpeedAt
 }
 
 // The data of a VTG sentence.
-#[derive(Drop)]
+#[derive(Clone, Copy)]
 pub struct VtgData {
     pub course: ShortHeld,
     pub speed: SpeedHeld,
 }
 
 // The data, or a refusal.
-#[derive(Drop)]
+#[derive(Clone, Copy)]
 pub enum VtgRead {
     Syntax,
     Is(VtgData),

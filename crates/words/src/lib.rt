@@ -1,4 +1,6 @@
 // The words of an answer, put straight into words that are lent: 40 for each, or none where there is no room for 40.
+#![tactic(auto)]
+
 mod gga_words;
 mod gll_words;
 mod gsa_words;

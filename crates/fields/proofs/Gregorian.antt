@@ -9,7 +9,7 @@ use mathlib.Core.Option.{Option, none, some}
 use lib.Dec.{eqb, leb}
 use borrow.Author.Tests.{eqb-true, eqb-false, eq-eqb, leb-true}
 use Rattle.fields.specs.Date.{Date, leap, days_in, date_of}
-use Rattle.fields.proofs.Calendar.{good-day}
+use Rattle.fields.proofs.CalendarDays.{good-day}
 
 -- every fourth year, and of the full centuries every fourth
 abbrev pub Leap : ℕ → Type 0

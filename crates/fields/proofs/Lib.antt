@@ -1,5 +1,5 @@
 pub mod Clock
-pub mod Calendar
+pub mod CalendarDays
 pub mod Gregorian
 pub mod Never
 pub mod Steps

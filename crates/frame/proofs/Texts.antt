@@ -90,7 +90,7 @@ member (t ∷ ts) k e = by (alike k t) refl (λ f. member ts k f) e
     by true f rest e = head (alike-equal k t f)
     by false f rest e = tail (rest e)
 
-pub passes : {ts : List (List ℕ)} {k : List ℕ} → Memᴰ k ts → listed ts k ≡ true
+pub passes : {k : List ℕ} {ts : List (List ℕ)} → Memᴰ k ts → listed ts k ≡ true
 unfolding listed
 passes {k = k} (head {x = t} {xs = ts} e) = ap (λ (b : Bool). b || listed ts k) (sym (ap (alike k) e) ∙ alike-self k)
 passes {k = k} (tail {x = t} {xs = ts} m) = by (alike k t) (passes m)

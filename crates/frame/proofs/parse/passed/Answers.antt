@@ -1,0 +1,43 @@
+-- A line that ends with its checksum, has no `*` before that and is ASCII is a sentence, and its checksum decides; of any other nothing is
+-- told. Assumes nothing.
+use Prim.Native.Nat.{ℕ, ◌-◌}
+use native.Mathlib.Omega.{arith}
+use mathlib.Core.Path.{◌≡◌, refl, sym, ◌∙◌}
+use mathlib.Core.List.{List}
+use lib.ListN.{length}
+use lib.Seq.{slice}
+use borrow.Author.Rules.{rules}
+use Rattle.frame.specs.Checksum.{checksum}
+use Rattle.frame.specs.Frame.{compared, frame}
+use Rattle.frame.specs.Answer.{letters}
+use Rattle.frame.proofs.Judged.{sums-equal, sums-differ}
+use Rattle.frame.proofs.Quick.{Enclosed, ends-with, parts-in, enclosed-frame}
+use Rattle.frame.proofs.parse.passed.Goals as goal
+
+pub returns-then-x-found : goal.returns-then-x-found
+returns-then-x-found c =
+    let line = c.args.s.now in
+    let enclosed : Enclosed line (letters c.args.kind) c.in-Is.found (length line - 3) = record {
+      head = c.requires;
+      comma = c.if-s-ne44.false;
+      end = omega (arith, c.requires.long);
+      digits = ends-with c.checksum_field.ensures.0 c.in-Is.is (omega arith);
+    } in
+    let pass = c.one_pass-x.ensures in
+    let decided : frame line ≡ compared (checksum (slice 1 (length line - 3) line)) (parts-in line enclosed) =
+      enclosed-frame line enclosed (sym pass.1 ∙ c.if-x-ne0.false) c.if-x-gt127.false pass.2 in
+    (rw c.new.ensures (sums-equal (parts-in line enclosed) pass.0 c.if-x-found.true ∙ sym decided), refl)
+
+pub returns : goal.returns
+returns c =
+    let line = c.args.s.now in
+    let enclosed : Enclosed line (letters c.args.kind) c.in-Is.found (length line - 3) = record {
+      head = c.requires;
+      comma = c.if-s-ne44.false;
+      end = omega (arith, c.requires.long);
+      digits = ends-with c.checksum_field.ensures.0 c.in-Is.is (omega arith);
+    } in
+    let pass = c.one_pass-x.ensures in
+    let decided : frame line ≡ compared (checksum (slice 1 (length line - 3) line)) (parts-in line enclosed) =
+      enclosed-frame line enclosed (sym pass.1 ∙ c.if-x-ne0.false) c.if-x-gt127.false pass.2 in
+    (sums-differ (parts-in line enclosed) pass.0 c.if-x-found.false ∙ sym decided, refl)

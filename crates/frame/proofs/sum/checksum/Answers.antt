@@ -1,0 +1,22 @@
+-- The invariant: the checksum of the whole part is that of what is left of it, from the one so far. Assumes nothing.
+use Prim.Native.Nat.{◌-◌}
+use native.Mathlib.Omega.{arith}
+use mathlib.Core.Path.{◌≡◌, refl, sym, ◌∙◌}
+use borrow.Author.Rules.{rules}
+use lib.Seq.{slice}
+use Rattle.frame.specs.Checksum.{checksum, checksum_from}
+use Rattle.frame.proofs.Sums.{sum-here, sum-end}
+use Rattle.frame.proofs.sum.checksum.Goals as goal
+
+pub loop-i-init : goal.loop-i-init
+loop-i-init c = refl
+
+pub loop-i-preserved : goal.loop-i-preserved
+loop-i-preserved c =
+    let a = c.args in
+    c.loop-i.invariant ∙ sum-here a.s.now c.loop-i.i a.to _ (omega arith) (omega arith)
+
+pub returns : goal.returns
+returns c =
+    let a = c.args in
+    (sym (c.loop-i.invariant ∙ sum-end a.s.now c.loop-i.i a.to _ (omega arith)), refl)

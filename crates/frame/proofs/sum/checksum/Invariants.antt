@@ -1,0 +1,15 @@
+-- What each turn of the loop keeps, and what falls.
+use Prim.Native.Nat.{◌-◌}
+use native.Mathlib.Omega.{arith}
+use mathlib.Core.Path.{◌≡◌, refl, sym, ◌∙◌}
+use borrow.Author.Rules.{rules}
+use lib.Seq.{slice}
+use Rattle.frame.specs.Checksum.{checksum, checksum_from}
+use Rattle.frame.proofs.Sums.{sum-here, sum-end}
+use Rattle.frame.proofs.sum.checksum.Given as goal
+
+abbrev pub invariant-loop-i : goal.invariant-loop-i
+invariant-loop-i l = checksum (slice l.from l.to l.s) ≡ checksum_from l.x (slice l.i l.to l.s)
+
+abbrev pub decreases-loop-i : goal.decreases-loop-i
+decreases-loop-i l = l.end - l.i

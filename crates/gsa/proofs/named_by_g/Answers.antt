@@ -1,5 +1,4 @@
 -- `named_by_g` meets its contract: each letter of its match is one of the definition. Assumes nothing.
-use native.Mathlib.Omega.{arith}
 use Rattle.gsa.proofs.Systems.{unnamed-g}
 use Rattle.gsa.proofs.named_by_g.Goals as goal
 
@@ -16,4 +15,4 @@ pub returns-in-80 : goal.returns-in-80
 returns-in-80 c = rw c.in-80.is
 
 pub returns-in_default : goal.returns-in_default
-returns-in_default c = unnamed-g _ (λ e. omega arith) (λ e. omega arith) (λ e. omega arith) (λ e. omega arith)
+returns-in_default c = let n = c.in_default.in_default-own.rest in unnamed-g _ n.0.0.0.1 n.0.0.1 n.0.1 n.1

@@ -1,0 +1,19 @@
+-- `vtg_of` meets its contract: what the reader of the data says. Assumes nothing.
+use mathlib.Core.Path.{◌≡◌, refl}
+use Rattle.frame.specs.Answer.{talker_bytes, parts}
+use Rattle.vtg.specs.Vtg.{vtg}
+use Rattle.vtg.specs.Answer.{vtg_read}
+use Rattle.vtg.specs.declared.VtgRead.{VtgRead}
+use Rattle.answer.specs.Sentence.{or_refused, as_vtg, vtg_of}
+use Rattle.sentence.proofs.Told.{data-says}
+use borrow.Author.Rules.{rules}
+use Rattle.sentence.proofs.vtg_of.Goals as goal
+
+pub returns-in-Syntax : goal.returns-in-Syntax
+returns-in-Syntax c = ((data-says c.args.x c.args.s.now c.requires c.data-data.ensures.0 (as_vtg _) vtg vtg_read c.do_parse_vtg.ensures.0 c.in-Syntax.is,) refl)
+
+pub returns-in-Is : goal.returns-in-Is
+returns-in-Is c = ((data-says c.args.x c.args.s.now c.requires c.data-data.ensures.0 (as_vtg _) vtg vtg_read c.do_parse_vtg.ensures.0 c.in-Is.is,) refl)
+
+pub returns-in-Number : goal.returns-in-Number
+returns-in-Number c = ((data-says c.args.x c.args.s.now c.requires c.data-data.ensures.0 (as_vtg _) vtg vtg_read c.do_parse_vtg.ensures.0 c.in-Number.is,) refl)

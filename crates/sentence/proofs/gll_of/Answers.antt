@@ -10,13 +10,13 @@ use borrow.Author.Rules.{rules}
 use Rattle.sentence.proofs.gll_of.Goals as goal
 
 pub returns-in-Syntax : goal.returns-in-Syntax
-returns-in-Syntax c = ((data-says c.args.x c.args.s.now c.requires c.data-data.ensures.0 (as_gll _) gll gll_read c.do_parse_gll.ensures.0 c.in-Syntax.is,) refl)
+returns-in-Syntax c = ((data-says c.args.x c.args.s.now c.requires c.data-data.ensures.0 (as_gll _) gll gll_read c.do_parse_gll.ensures.0 c.in-Syntax.is), refl)
 
 pub returns-in-Is : goal.returns-in-Is
-returns-in-Is c = ((data-says c.args.x c.args.s.now c.requires c.data-data.ensures.0 (as_gll _) gll gll_read c.do_parse_gll.ensures.0 c.in-Is.is,) refl)
+returns-in-Is c = ((data-says c.args.x c.args.s.now c.requires c.data-data.ensures.0 (as_gll _) gll gll_read c.do_parse_gll.ensures.0 c.in-Is.is), refl)
 
 pub returns-in-Number : goal.returns-in-Number
-returns-in-Number c = ((data-says c.args.x c.args.s.now c.requires c.data-data.ensures.0 (as_gll _) gll gll_read c.do_parse_gll.ensures.0 c.in-Number.is,) refl)
+returns-in-Number c = ((data-says c.args.x c.args.s.now c.requires c.data-data.ensures.0 (as_gll _) gll gll_read c.do_parse_gll.ensures.0 c.in-Number.is), refl)
 
 pub returns-in-BadTime : goal.returns-in-BadTime
-returns-in-BadTime c = ((data-says c.args.x c.args.s.now c.requires c.data-data.ensures.0 (as_gll _) gll gll_read c.do_parse_gll.ensures.0 c.in-BadTime.is,) refl)
+returns-in-BadTime c = ((data-says c.args.x c.args.s.now c.requires c.data-data.ensures.0 (as_gll _) gll gll_read c.do_parse_gll.ensures.0 c.in-BadTime.is), refl)

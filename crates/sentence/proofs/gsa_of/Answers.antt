@@ -20,13 +20,14 @@ pub returns-in-Number : goal.returns-in-Number
 returns-in-Number c = (alone-is c.alone-in-Number.ensures ((read-says c.args.x c.args.s.now c.do_parse_gsa-read.result c.requires c.data-data.ensures.0 c.do_parse_gsa-read.ensures.0 c.in-Number.is)) refl, refl)
 
 pub returns-in-Is-settle : goal.returns-in-Is-settle
-returns-in-Is-settle c = ((let t = c.args.x.talker in
-    let r = c.do_parse_gsa-read.result in
-    with-record (held c.do_parse_gsa-read.ensures.0 c.in-Is.is) refl refl refl (
-      ap (λ (h : GsaHead). is_gsa (gsa_sentence (take r.count r.satellites) (record { talker = t; head = h }))) c.with_system-head.ensures ∙ refl,
-      ∙ (settled-says c.args.x c.args.s.now c.do_parse_gsa-read.result c.requires c.data-data.ensures.0 c.do_parse_gsa-read.ensures.0
-          c.in-Is.is c.in-Is-settle.is c.settle.ensures),
-    )) refl)
+returns-in-Is-settle c = (
+  (let t = c.args.x.talker in
+      let r = c.do_parse_gsa-read.result in
+      with-record (held c.do_parse_gsa-read.ensures.0 c.in-Is.is) refl refl refl
+      (ap (λ (h : GsaHead). is_gsa (gsa_sentence (take r.count r.satellites) (record { talker = t; head = h }))) c.with_system-head.ensures ∙ refl ∙ (settled-says c.args.x c.args.s.now c.do_parse_gsa-read.result c.requires c.data-data.ensures.0 c.do_parse_gsa-read.ensures.0
+      c.in-Is.is c.in-Is-settle.is c.settle.ensures))),
+  refl,
+)
 
 pub returns-in-Mismatch : goal.returns-in-Mismatch
 returns-in-Mismatch c = (

@@ -17,19 +17,19 @@ pub loop-i-init : goal.loop-i-init
 loop-i-init c = (omega arith, refl, refl)
 
 pub overflow_cast-out : goal.overflow_cast-out
-overflow_cast-out c = elem_Fits w32 w64 c.args.t2 _ c.loop-i.i c.well-formed.1.0.1.1 tt
+overflow_cast-out c = elem_Fits w32 w64 c.args.cells _ c.loop-i.i c.well_formed.1.0.1.1 tt
 
 pub loop-i-preserved : goal.loop-i-preserved
 loop-i-preserved c =
     let a = c.args in
     let w = c.loop-i in
     let l = a.out.now in
-    let many : length a.t2 ≡ 18 = c.well-formed.1.0.1.0.1 in
-    let less : w.i ≤ length a.t2 = omega arith in (
+    let many : length a.cells ≡ 18 = c.well_formed.1.0.1.0.1 in
+    let less : w.i ≤ length a.cells = omega arith in (
       omega arith,
-      behind l w.out _ (take w.i a.t2) (get_or a.t2 w.i 0 ∷ []) 20 (20 + w.i) w.invariant.1 (ap (λ (n : ℕ). 20 + n) (length-take-le w.i a.t2 less)) refl
-          ∙ ap (sets l 20) (sym (take-suc a.t2 w.i 0 (omega arith)))
-          ∙ ap (λ (n : ℕ). sets l 20 (take n a.t2)) (sym (add-one w.i)),
+      behind l w.out _ (take w.i a.cells) (get_or a.cells w.i 0 ∷ []) 20 (20 + w.i) w.invariant.1 (ap (λ (n : ℕ). 20 + n) (length-take-le w.i a.cells less)) refl
+          ∙ ap (sets l 20) (sym (take-suc a.cells w.i 0 (omega arith)))
+          ∙ ap (λ (n : ℕ). sets l 20 (take n a.cells)) (sym (add-one w.i)),
       length-set w.out _ _ ∙ w.invariant.2,
     )
 
@@ -40,8 +40,8 @@ pub returns : goal.returns
 returns c =
     let a = c.args in
     let w = c.loop-i in
-    let many : length a.t2 ≡ 18 = c.well-formed.1.0.1.0.1 in
+    let many : length a.cells ≡ 18 = c.well_formed.1.0.1.0.1 in
     let e : w.i ≡ 18 = omega (arith, w.invariant.0, c.loop-i-test.false) in
     w.invariant.1
-    ∙ ap (λ (n : ℕ). sets a.out.now 20 (take n a.t2)) e
-    ∙ ap (sets a.out.now 20) (take_all 18 a.t2 (omega arith) ∙ sym (padded-all a.t2) ∙ ap (λ (n : ℕ). padded n a.t2) many)
+    ∙ ap (λ (n : ℕ). sets a.out.now 20 (take n a.cells)) e
+    ∙ ap (sets a.out.now 20) (take_all 18 a.cells (omega arith) ∙ sym (padded-all a.cells) ∙ ap (λ (n : ℕ). padded n a.cells) many)

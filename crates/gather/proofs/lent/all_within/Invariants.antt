@@ -1,0 +1,17 @@
+-- What each turn of the loop keeps, and what falls.
+use Prim.Native.Nat.{ℕ, ◌+◌, ◌-◌, ◌≤◌}
+use native.Mathlib.Omega.{arith}
+use mathlib.Core.Path.{◌≡◌, ap, sym, ◌∙◌}
+use mathlib.Core.Bool.{Bool, ◌&&◌}
+use borrow.Author.Rules.{rules}
+use Rattle.gather.specs.Words.{sats_from}
+use Rattle.gather.specs.Code.{all_within}
+use Rattle.gather.proofs.Tests.{failed, passed}
+use Rattle.gather.proofs.Greedy.{cell-first, cells-none}
+use Rattle.gather.proofs.lent.all_within.Given as goal
+
+abbrev pub invariant-loop-i : goal.invariant-loop-i
+invariant-loop-i l = (l.i ≤ l.count) × (all_within l.ids l.max (sats_from 0 l.count l.row) ≡ all_within l.ids l.max (sats_from l.i (l.count - l.i) l.row))
+
+abbrev pub decreases-loop-i : goal.decreases-loop-i
+decreases-loop-i l = l.count - l.i

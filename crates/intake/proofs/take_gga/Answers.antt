@@ -1,0 +1,27 @@
+-- `take_gga` meets its contract: what the reader of the data says, in words where it is a record. Assumes nothing.
+use Rattle.std.specs.Prelude.{◌≡◌}
+use mathlib.Core.Path.{refl}
+use Rattle.frame.specs.Answer.{talker_bytes, parts}
+use Rattle.frame.specs.declared.refusal.Refusal.TheVariants.{Syntax, Number, BadTime}
+use Rattle.gga.specs.Gga.{gga}
+use Rattle.gga.specs.Answer.{gga_read}
+use Rattle.gga.specs.declared.GgaRead.{GgaRead}
+use Rattle.answer.specs.Sentence.{is_gga, or_refused, as_gga, gga_of}
+use Rattle.words.specs.Answer.{gga_sentence}
+use Rattle.sentence.proofs.Told.{data-says}
+use Rattle.intake.proofs.Tells.{not-taken, quiet-taken}
+use borrow.Author.Rules.{rules}
+use Rattle.intake.proofs.take_gga.Goals as goal
+
+pub returns-in-Syntax : goal.returns-in-Syntax
+returns-in-Syntax c t = not-taken Syntax ((data-says c.args.x c.args.line.now c.requires c.data-data.ensures.0 (as_gga _) gga gga_read c.do_parse_gga.ensures.0 c.in-Syntax.is))
+
+pub returns-in-Is : goal.returns-in-Is
+returns-in-Is c t =
+    quiet-taken (is_gga (gga_sentence _ c.in-Is.d)) refl refl refl ((data-says c.args.x c.args.line.now c.requires c.data-data.ensures.0 (as_gga _) gga gga_read c.do_parse_gga.ensures.0 c.in-Is.is)) c.put_gga.ensures
+
+pub returns-in-Number : goal.returns-in-Number
+returns-in-Number c t = not-taken Number ((data-says c.args.x c.args.line.now c.requires c.data-data.ensures.0 (as_gga _) gga gga_read c.do_parse_gga.ensures.0 c.in-Number.is))
+
+pub returns-in-BadTime : goal.returns-in-BadTime
+returns-in-BadTime c t = not-taken BadTime ((data-says c.args.x c.args.line.now c.requires c.data-data.ensures.0 (as_gga _) gga gga_read c.do_parse_gga.ensures.0 c.in-BadTime.is))

@@ -1,0 +1,27 @@
+-- `take_gll` meets its contract: what the reader of the data says, in words where it is a record. Assumes nothing.
+use Rattle.std.specs.Prelude.{◌≡◌}
+use mathlib.Core.Path.{refl}
+use Rattle.frame.specs.Answer.{talker_bytes, parts}
+use Rattle.frame.specs.declared.refusal.Refusal.TheVariants.{Syntax, Number, BadTime}
+use Rattle.gll.specs.Gll.{gll}
+use Rattle.gll.specs.Answer.{gll_read}
+use Rattle.gll.specs.declared.GllRead.{GllRead}
+use Rattle.answer.specs.Sentence.{is_gll, or_refused, as_gll, gll_of}
+use Rattle.words.specs.Answer.{gll_sentence}
+use Rattle.sentence.proofs.Told.{data-says}
+use Rattle.intake.proofs.Tells.{not-taken, quiet-taken}
+use borrow.Author.Rules.{rules}
+use Rattle.intake.proofs.take_gll.Goals as goal
+
+pub returns-in-Syntax : goal.returns-in-Syntax
+returns-in-Syntax c t = not-taken Syntax ((data-says c.args.x c.args.line.now c.requires c.data-data.ensures.0 (as_gll _) gll gll_read c.do_parse_gll.ensures.0 c.in-Syntax.is))
+
+pub returns-in-Is : goal.returns-in-Is
+returns-in-Is c t =
+    quiet-taken (is_gll (gll_sentence _ c.in-Is.d)) refl refl refl ((data-says c.args.x c.args.line.now c.requires c.data-data.ensures.0 (as_gll _) gll gll_read c.do_parse_gll.ensures.0 c.in-Is.is)) c.put_gll.ensures
+
+pub returns-in-Number : goal.returns-in-Number
+returns-in-Number c t = not-taken Number ((data-says c.args.x c.args.line.now c.requires c.data-data.ensures.0 (as_gll _) gll gll_read c.do_parse_gll.ensures.0 c.in-Number.is))
+
+pub returns-in-BadTime : goal.returns-in-BadTime
+returns-in-BadTime c t = not-taken BadTime ((data-says c.args.x c.args.line.now c.requires c.data-data.ensures.0 (as_gll _) gll gll_read c.do_parse_gll.ensures.0 c.in-BadTime.is))

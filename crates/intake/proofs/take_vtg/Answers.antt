@@ -1,0 +1,24 @@
+-- `take_vtg` meets its contract: what the reader of the data says, in words where it is a record. Assumes nothing.
+use Rattle.std.specs.Prelude.{◌≡◌}
+use mathlib.Core.Path.{refl}
+use Rattle.frame.specs.Answer.{talker_bytes, parts}
+use Rattle.frame.specs.declared.refusal.Refusal.TheVariants.{Syntax, Number}
+use Rattle.vtg.specs.Vtg.{vtg}
+use Rattle.vtg.specs.Answer.{vtg_read}
+use Rattle.vtg.specs.declared.VtgRead.{VtgRead}
+use Rattle.answer.specs.Sentence.{is_vtg, or_refused, as_vtg, vtg_of}
+use Rattle.words.specs.Answer.{vtg_sentence}
+use Rattle.sentence.proofs.Told.{data-says}
+use Rattle.intake.proofs.Tells.{not-taken, quiet-taken}
+use borrow.Author.Rules.{rules}
+use Rattle.intake.proofs.take_vtg.Goals as goal
+
+pub returns-in-Syntax : goal.returns-in-Syntax
+returns-in-Syntax c t = not-taken Syntax ((data-says c.args.x c.args.line.now c.requires c.data-data.ensures.0 (as_vtg _) vtg vtg_read c.do_parse_vtg.ensures.0 c.in-Syntax.is))
+
+pub returns-in-Is : goal.returns-in-Is
+returns-in-Is c t =
+    quiet-taken (is_vtg (vtg_sentence _ c.in-Is.d)) refl refl refl ((data-says c.args.x c.args.line.now c.requires c.data-data.ensures.0 (as_vtg _) vtg vtg_read c.do_parse_vtg.ensures.0 c.in-Is.is)) c.put_vtg.ensures
+
+pub returns-in-Number : goal.returns-in-Number
+returns-in-Number c t = not-taken Number ((data-says c.args.x c.args.line.now c.requires c.data-data.ensures.0 (as_vtg _) vtg vtg_read c.do_parse_vtg.ensures.0 c.in-Number.is))

@@ -23,16 +23,16 @@ module _ (log : List ℕ) (p n : ℕ) (g : Gatherer) where
   walk-long h = answered (Refused (LogTooLong (length log))) g (simp (lt-ltb longest (length log) h))
 
   module _ (short : length log ≤ longest) {place : Bool} (tested : place ≡ is_place log p) where
-    pub walk-bad : not place ≡ true → SaysWalk (walk_of log p n g) g (Refused (BadPlace p))
+    pub walk-bad : place ≡ false → SaysWalk (walk_of log p n g) g (Refused (BadPlace p))
     unfolding walk_of
-    walk-bad t = answered (Refused (BadPlace p)) g (simp (le-ltb longest (length log) short, sym tested ∙ not-true place t))
+    walk-bad t = answered (Refused (BadPlace p)) g (simp (le-ltb longest (length log) short, sym tested ∙ t))
 
-    module _ (t : not place ≡ false) where
+    module _ (t : place ≡ true) where
       module _ (c : Counts) (a : Gatherer) (w : Goes log p n g c a) where
         -- no step is left
         walk-done : go_on log (n - c.lines) (record { counts = c; gatherer = a }) ≡ record { counts = c; gatherer = a }
             → SaysWalk (walk_of log p n g) a (Went c)
-        walk-done e = answered (Went c) a (sym (walk-is log short p n g (sym tested ∙ not-false place t) ∙ ap gone (w.same ∙ e)))
+        walk-done e = answered (Went c) a (sym (walk-is log short p n g (sym tested ∙ t) ∙ ap gone (w.same ∙ e)))
 
         -- the allowance is used up
         pub walk-used : n ≤ c.lines → SaysWalk (walk_of log p n g) a (Went c)

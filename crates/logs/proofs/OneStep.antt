@@ -57,15 +57,15 @@ module _ (log : List ℕ) (p : ℕ) (g : Gatherer) where
   step-long h e = idle-says (Refused (LogTooLong (length log))) g e refl (long-log log p g h)
 
   module _ (short : length log ≤ longest) {place : Bool} (tested : place ≡ is_place log p) where
-    pub step-bad : {r : StepAnswer} → not place ≡ true → r ≡ idle_of (Refused (BadPlace p)) → SaysStep (step_of log p g) g r
-    step-bad t e = idle-says (Refused (BadPlace p)) g e refl (bad-place log p g short (sym tested ∙ not-true place t))
+    pub step-bad : {r : StepAnswer} → place ≡ false → r ≡ idle_of (Refused (BadPlace p)) → SaysStep (step_of log p g) g r
+    step-bad t e = idle-says (Refused (BadPlace p)) g e refl (bad-place log p g short (sym tested ∙ t))
 
-    module _ (t : not place ≡ false) where
+    module _ (t : place ≡ true) where
       here : step_at log p g ≡ step_of log p g
-      here = good-place log p g short (sym tested ∙ not-false place t)
+      here = good-place log p g short (sym tested ∙ t)
 
       pub step-within : p ≤ length log
-      step-within = place-within log p (sym tested ∙ not-false place t)
+      step-within = place-within log p (sym tested ∙ t)
 
       pub step-end : {r : StepAnswer} → p ≡ length log → r ≡ idle_of (End p) → SaysStep (step_of log p g) g r
       step-end n e = idle-says (End p) g e refl (at-end log p g n ∙ here)

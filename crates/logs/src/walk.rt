@@ -8,10 +8,10 @@ ghost use Rattle.logs.specs.Answer.{walk_in, SaysWalk};
 ghost use Rattle.logs.specs.Code.{tallied_by, Within, Takes, TakesHead};
 
 use crate::line;
-use intake::Taken;
 use frame::Refusal;
 use gather::line::Outcome;
 use gather::run;
+use intake::Taken;
 
 // What was counted, and the place where the next line begins.
 #[derive(Clone, Copy)]

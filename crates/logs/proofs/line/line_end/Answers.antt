@@ -1,0 +1,20 @@
+-- `line_end` meets its contract: the stretch from `at` ends where the one from `i` does. Assumes nothing.
+use Rattle.std.proofs.Common.{◌≡◌, ◌+◌, ◌-◌, length, drop, arith, rules}
+use Rattle.lines.specs.Places.{stretch}
+use Rattle.lines.proofs.Scan.{stretch-here, stretch-more, stretch-end}
+use Rattle.logs.proofs.line.line_end.Goals as goal
+
+pub loop-i-init : goal.loop-i-init
+loop-i-init c = c.skip-i.ensures
+
+pub returns-then-log-i-eq10 : goal.returns-then-log-i-eq10
+returns-then-log-i-eq10 c =
+    omega (arith, c.loop-i.invariant, stretch-here c.args.log.now c.loop-i.i c.loop-i-test.true c.if-log-i-eq10.true)
+
+pub loop-i-preserved : goal.loop-i-preserved
+loop-i-preserved c =
+    omega (arith, c.loop-i.invariant, stretch-more c.args.log.now c.loop-i.i c.loop-i-test.true c.if-log-i-eq10.false)
+
+pub returns : goal.returns
+returns c =
+    omega (arith, c.loop-i.invariant, stretch-end c.args.log.now c.loop-i.i c.loop-i-test.false)

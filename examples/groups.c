@@ -3,9 +3,9 @@
  *     3 GPS 3 11 3/3/111/0 4/15/270/0 27/5/244/-
  *
  * the number of the line that completed the group, its system, sentences and satellites in view, then each satellite with its
- * elevation, azimuth and signal, - for one that is absent. Where target/staticlib has libcapi.a (docs/ABI.md), it is compiled by
+ * elevation, azimuth and signal, - for one that is absent. Where crates/capi_c/out has the library (docs/ABI.md), it is compiled by
  *
- *     cc -std=c99 -Iinclude -o groups examples/groups.c target/staticlib/libcapi.a
+ *     cc -std=c99 -Iinclude -o groups examples/groups.c crates/capi_c/out/libcapi_c.a
  *
  * Exit status: 0 the log was read to its end; 1 it was not, or a group could not be written, and why is told; 2 bad usage. */
 #include <errno.h>

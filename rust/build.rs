@@ -4,28 +4,22 @@
 //! libcapi.a, and it is linked from there. Else Rattle's `rt` proves and
 //! compiles it, for x86-64, which is what that toolchain compiles for.
 //!
-//! `rt` writes to `target` of the repository that it is run in, and has no
-//! option for another folder; a build script may write to OUT_DIR alone. So it
-//! is run in a copy of the sources there. Whether something has to be proved
-//! again is left to `rt`, which knows what it proved: that a libcapi.a is
-//! newer than the sources would not say that it was made of them. What `rt`
-//! proved in the repository is copied along once, where there is any. (Within the
-//! repository `.cargo/config.toml` has OUT_DIR lie where `rt` takes no copy for a lost source.)
+//! `rt` keeps what it proved, and lays what it makes, in the folder `out` of
+//! each crate, which is no part of the sources. It is run where these stand,
+//! and not in a copy in OUT_DIR: then nothing is proved twice, and `rt ci`,
+//! which takes no second crates.txt below the repository, passes behind a
+//! build. Whether something has to be proved again is left to `rt`, which
+//! knows what it proved: that a library is newer than the sources would not
+//! say that it was made of them.
 
 use std::{
-    collections::BTreeSet,
-    env,
-    ffi::OsString,
-    fs, io,
+    env, fs, io,
     path::{Path, PathBuf},
     process::{exit, Command},
 };
 
-/// What of the repository `rt` needs.
-const SOURCES: [&str; 2] = ["crates", "crates.txt"];
-
-/// In `target`, what `rt` goes by where a crate is proved already.
-const PROVED: [&str; 2] = ["rlib", "stamp"];
+/// What of a crate `rt` makes the library of.
+const PARTS: [&str; 3] = ["src", "specs", "proofs"];
 
 fn main() {
     println!("cargo:rerun-if-env-changed=NMEA_LIB");
@@ -61,36 +55,58 @@ fn library() -> Result<PathBuf, String> {
 
     let folder = |name| env::var_os(name).map(PathBuf::from).ok_or("cargo runs it");
     let repository = folder("CARGO_MANIFEST_DIR")?.join("..");
-    let copy = folder("OUT_DIR")?.join("repository");
-    for source in SOURCES {
-        let source = repository.join(source);
+    let sources = sources(&repository).map_err(|why| {
+        format!(
+            "{why}, of which the library is made: name the folder that has libcapi.a in NMEA_LIB"
+        )
+    })?;
+    for source in sources {
         println!("cargo:rerun-if-changed={}", source.display());
-        if !source.exists() {
-            return Err(format!(
-                "there is no {}, of which the library is made: name the folder that has \
-                 libcapi.a in NMEA_LIB",
-                source.display()
-            ));
-        }
     }
-    copy_all(&repository, &copy).map_err(|error| format!("{}: {error}", copy.display()))?;
-    prove(&copy)
+    let out = folder("OUT_DIR")?;
+    let (made, library) = (prove(&repository)?, out.join("libcapi.a"));
+    // One that may not be written is replaced too.
+    let _ = fs::remove_file(&library);
+    fs::copy(made, &library).map_err(|error| format!("{}: {error}", library.display()))?;
+    Ok(out)
 }
 
-/// Runs `rt` in the copy of the repository: the folder with libcapi.a.
-fn prove(copy: &Path) -> Result<PathBuf, String> {
-    let folder = copy.join("target/staticlib");
-    let library = folder.join("libcapi.a");
+/// The files and folders of which the library is made, or what is missing.
+fn sources(repository: &Path) -> Result<Vec<PathBuf>, String> {
+    let list = repository.join("crates.txt");
+    let crates = repository.join("crates");
+    if !list.is_file() {
+        return Err(format!("there is no {}", list.display()));
+    }
+    let parts = parts(&crates).map_err(|error| format!("{}: {error}", crates.display()))?;
+    Ok([list].into_iter().chain(parts).collect())
+}
+
+fn parts(crates: &Path) -> io::Result<Vec<PathBuf>> {
+    let mut parts = vec![];
+    for folder in fs::read_dir(crates)? {
+        let folder = folder?.path();
+        parts.extend(PARTS.map(|part| folder.join(part)));
+    }
+    // Cargo would build anew each time for one that is not there.
+    parts.retain(|part| part.exists());
+    Ok(parts)
+}
+
+/// Runs `rt`, which proves and compiles the functions: the library.
+fn prove(repository: &Path) -> Result<PathBuf, String> {
+    let exports = repository.join("crates/capi_c");
+    let library = exports.join("out/libcapi_c.a");
     if !library.exists() {
         // Cargo shows it when the script has ended, and `cargo build -vv` at once.
         println!(
-            "cargo:warning=the functions come from `rt staticlib capi`, which proves and \
+            "cargo:warning=the functions come from `rt lib` in crates/capi_c, which proves and \
              compiles them: the first build waits some minutes for it"
         );
     }
     let output = Command::new("rt")
-        .args(["staticlib", "capi"])
-        .current_dir(copy)
+        .arg("lib")
+        .current_dir(&exports)
         .output()
         .map_err(|error| {
             format!(
@@ -101,59 +117,13 @@ fn prove(copy: &Path) -> Result<PathBuf, String> {
     if !output.status.success() {
         let [said, log] =
             [&output.stdout, &output.stderr].map(|text| String::from_utf8_lossy(text));
-        return Err(format!("`rt staticlib capi` failed:\n{said}{log}"));
+        return Err(format!("`rt lib` in crates/capi_c failed:\n{said}{log}"));
     }
     match library.is_file() {
-        true => Ok(folder),
-        false => Err(format!("`rt staticlib capi` left no {}", library.display())),
+        true => Ok(library),
+        false => Err(format!(
+            "`rt lib` in crates/capi_c left no {}",
+            library.display()
+        )),
     }
-}
-
-/// Makes the copy as the repository is. What is proved comes first, so that no
-/// source is older than it; its folder gets its name when it is whole.
-fn copy_all(repository: &Path, copy: &Path) -> io::Result<()> {
-    let (target, part) = (copy.join("target"), copy.join("target.part"));
-    let proved = repository.join("target");
-    if !target.exists() && PROVED.iter().all(|name| proved.join(name).is_dir()) {
-        if part.exists() {
-            fs::remove_dir_all(&part)?;
-        }
-        for name in PROVED {
-            sync(&proved.join(name), &part.join(name))?;
-        }
-        fs::rename(&part, &target)?;
-    }
-    for name in SOURCES {
-        sync(&repository.join(name), &copy.join(name))?;
-    }
-    Ok(())
-}
-
-/// Makes a file or folder as another is. Files with the same bytes are left
-/// alone, and what the other has not is taken away.
-fn sync(from: &Path, to: &Path) -> io::Result<()> {
-    if !from.is_dir() {
-        if fs::read(to).ok() == Some(fs::read(from)?) {
-            return Ok(());
-        }
-        // One that may not be written is replaced too.
-        let _ = fs::remove_file(to);
-        return fs::copy(from, to).map(drop);
-    }
-    fs::create_dir_all(to)?;
-    let (here, there) = (names(from)?, names(to)?);
-    for name in there.difference(&here) {
-        let path = to.join(name);
-        match path.is_dir() {
-            true => fs::remove_dir_all(path)?,
-            false => fs::remove_file(path)?,
-        }
-    }
-    here.iter()
-        .try_for_each(|name| sync(&from.join(name), &to.join(name)))
-}
-
-fn names(folder: &Path) -> io::Result<BTreeSet<OsString>> {
-    let entries = fs::read_dir(folder)?;
-    entries.map(|entry| Ok(entry?.file_name())).collect()
 }

@@ -34,10 +34,11 @@ impl Program {
         }
 
         let repository = Path::new(env!("CARGO_MANIFEST_DIR")).join("..");
-        let program = repository.join("target/bin").join(name);
+        let built = format!("crates/{name}/out/{name}");
+        let program = repository.join(&built);
         if !program.is_file() {
             return Err(format!(
-                "target/bin/{name} is not there: `rt check {name}` makes it"
+                "{built} is not there: `rt ci` makes it, and `rt run` in crates/{name}"
             ));
         }
         let mut words = match toolchain() {
@@ -45,7 +46,7 @@ impl Program {
             None if ARCH == "x86_64" => vec![],
             None => {
                 return Err(format!(
-                    "target/bin/{name} is for x86-64, and no `rt` is there to run it on {ARCH}"
+                    "{built} is for x86-64, and no `rt` is there to run it on {ARCH}"
                 ))
             }
         };

@@ -23,12 +23,14 @@ type Checked = Result<(), Box<dyn Error>>;
 
 /// The library that the program is linked with.
 fn library() -> PathBuf {
-    let built = || Path::new(env!("CARGO_MANIFEST_DIR")).join("../target/staticlib");
-    let folder = env::var_os("NMEA_LIB").map_or_else(built, PathBuf::from);
-    let library = folder.join("libcapi.a");
+    let built = "../crates/capi_c/out/libcapi_c.a";
+    let library = match env::var_os("NMEA_LIB") {
+        Some(folder) => PathBuf::from(folder).join("libcapi.a"),
+        None => Path::new(env!("CARGO_MANIFEST_DIR")).join(built),
+    };
     assert!(
         library.is_file(),
-        "{} is not there: `rt staticlib capi` makes target/staticlib/libcapi.a",
+        "{} is not there: `rt lib` in crates/capi_c makes it",
         library.display()
     );
     library

@@ -1,11 +1,17 @@
 // Answers lines over standard input and output, for the comparison with the Rust crate: a frame is two bytes, the length of
 // a line, low byte first, and then the line; its answer is the 40 words of docs/ABI.md, 8 bytes each, low byte first.
-use libc::{STDIN_FILENO, STDOUT_FILENO};
+#![tactic(auto)]
+
+use std::io;
+use std::io::{ErrorKind, Read, Write};
 
 // How many words an answer has, and how many bytes these are.
 const WORDS: u32 = 40;
 
 const BYTES: usize = 320;
+
+// The longest line that is answered.
+const SPACE: usize = 4096;
 
 // More frames than any run has: a program must end.
 const FRAMES: u64 = 4000000000;
@@ -32,25 +38,23 @@ fn put_word(bytes: &mut [u8], i: u32, word: u64) {
 
 // The words as bytes.
 fn encode(words: &[u64], bytes: &mut [u8]) {
-    let mut i: u32 = 0;
-    while i < WORDS {
+    for i in 0..WORDS {
         let k = i as usize;
         if words.len() <= k {
             return;
         }
         let word = words[k];
         put_word(&mut *bytes, i, word);
-        i += 1;
     }
 }
 
-// Answers one line; false where standard output takes no more.
-fn answer(line: &[u8]) -> bool {
+// Answers one line.
+fn answer<W: Write>(output: &mut W, line: &[u8]) -> io::Result<()> {
     let mut words = [0u64; WORDS as usize];
     let mut bytes = [0u8; BYTES];
     capi::nmea_answer(line, &mut words);
     encode(&words, &mut bytes);
-    io::write_all(STDOUT_FILENO, &bytes)
+    output.write_all(&bytes)
 }
 
 // The length that two bytes write, low byte first.
@@ -58,34 +62,50 @@ fn length_of(low: u8, high: u8) -> usize {
     (low as usize) + (high as usize) * 256
 }
 
-// Reads a line that fills `line` and answers it; false where the input ends before it does.
-fn line_of(line: &mut [u8]) -> bool {
-    if io::read_full(STDIN_FILENO, &mut *line) < line.len() {
-        return false;
+// Fills a part; false where the input ends before it is full.
+fn fill<R: Read>(input: &mut R, part: &mut [u8]) -> io::Result<bool> {
+    match input.read_exact(part) {
+        Ok(()) => Ok(true),
+        Err(why) => {
+            if why.kind() == ErrorKind::UnexpectedEof {
+                Ok(false)
+            } else {
+                Err(why)
+            }
+        }
     }
-    answer(line)
+}
+
+// Reads a line that fills `line` and answers it; false where the input ends before it does.
+fn line_of<R: Read, W: Write>(input: &mut R, output: &mut W, line: &mut [u8]) -> io::Result<bool> {
+    if !fill(input, &mut *line)? {
+        return Ok(false);
+    }
+    answer(output, line)?;
+    Ok(true)
 }
 
 // Reads one frame into `space` and answers it; false at the end of the input, or where a frame is cut or too long.
-fn next(space: &mut [u8]) -> bool {
+fn next<R: Read, W: Write>(input: &mut R, output: &mut W, space: &mut [u8]) -> io::Result<bool> {
     let mut head = [0u8; 2];
-    if io::read_full(STDIN_FILENO, &mut head) < 2 {
-        return false;
+    if !fill(input, &mut head)? {
+        return Ok(false);
     }
     let n = length_of(head[0], head[1]);
     if space.len() < n {
-        return false;
+        return Ok(false);
     }
-    line_of(&mut space[..n])
+    line_of(input, output, &mut space[..n])
 }
 
-fn main() {
-    let mut space = io::buffer();
-    let mut frames: u64 = 0;
-    while frames < FRAMES {
-        if !next(&mut space) {
-            return;
+fn main(rt: HostRuntime) -> io::Result<()> {
+    let mut input = rt.stdin();
+    let mut output = rt.stdout();
+    let mut space = [0u8; SPACE];
+    for _ in 0..FRAMES {
+        if !next(&mut input, &mut output, &mut space)? {
+            break;
         }
-        frames += 1;
     }
+    Ok(())
 }

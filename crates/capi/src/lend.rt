@@ -41,8 +41,7 @@ const WAITS: u32 = 2;
 const GROUP: u32 = 3;
 
 // Makes a table fresh: every word 0. A table of another length is left as it is, and 255.
-#[unsafe(no_mangle)]
-pub extern "C" fn nmea_fresh(table: &mut [u32]) -> u32
+pub fn nmea_fresh(table: &mut [u32]) -> u32
     ensures { Freshened table.old table.new result }
 {
     if table.len() != gather::table::WORDS {
@@ -85,8 +84,7 @@ fn taken_code(taken: Taken) -> u32
 
 // Takes a line: its whole answer in the first 40 words, and what it does to the table, as a number. 255: too few words or a table of
 // another length, and nothing written.
-#[unsafe(no_mangle)]
-pub extern "C" fn nmea_gather(line: &[u8], out: &mut [u64], table: &mut [u32]) -> u32
+pub fn nmea_gather(line: &[u8], out: &mut [u64], table: &mut [u32]) -> u32
     ensures { GatheredLine line.now out.old out.new table.old table.new result × (line.now ≡ line.now) }
 {
     if out.len() < WORDS {
@@ -183,8 +181,7 @@ fn read_row(row: &[u32], number: usize, out: &mut [u64]) -> u32
 
 // Reads a row of a table: its system, n, the number waited for, in view, count and 36 entries in the first 293 words. Too few words, a
 // table of another length, a row that it has not, or one with more than 36 entries: 255, and nothing written.
-#[unsafe(no_mangle)]
-pub extern "C" fn nmea_row(table: &[u32], row: usize, out: &mut [u64]) -> u32
+pub fn nmea_row(table: &[u32], row: usize, out: &mut [u64]) -> u32
     ensures { RowRead table.now row out.old out.new result × (table.now ≡ table.now) }
 {
     if out.len() < ROW_WORDS {

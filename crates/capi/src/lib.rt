@@ -19,8 +19,7 @@ const DONE: u32 = 0;
 const UNDONE: u32 = 255;
 
 // The number of a line's refusal, at most 11; 0 exactly if it is accepted.
-#[unsafe(no_mangle)]
-pub extern "C" fn nmea_refusal(line: &[u8]) -> u32
+pub fn nmea_refusal(line: &[u8]) -> u32
     ensures { (result ≡ refusal_number (answer line.now)) × ((result ≡ 0) ↔ (verdict_of (answer line.now) ≡ none)) × (result ≤ 11) × (line.now ≡ line.now) }
 {
     let mut none = [0u64; 0];
@@ -33,8 +32,7 @@ pub extern "C" fn nmea_refusal(line: &[u8]) -> u32
 }
 
 // The whole answer to a line in the first 40 words of a buffer, and 0; or 255 where the buffer is shorter.
-#[unsafe(no_mangle)]
-pub extern "C" fn nmea_answer(line: &[u8], out: &mut [u64]) -> u32
+pub fn nmea_answer(line: &[u8], out: &mut [u64]) -> u32
     ensures { Answered line.now out.old out.new result × (line.now ≡ line.now) }
 {
     if out.len() < WORDS {

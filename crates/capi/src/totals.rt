@@ -31,8 +31,7 @@ fn put_totals(out: &mut [u64], c: Counts)
 
 // Walks the whole log from its start with a fresh gatherer. Lines, blank, accepted, refused and groups in the first five words, and 0; or
 // the number of the log's refusal, or 255 where the buffer is shorter, and nothing written.
-#[unsafe(no_mangle)]
-pub extern "C" fn nmea_walk(log: &[u8], out: &mut [u64]) -> u32
+pub fn nmea_walk(log: &[u8], out: &mut [u64]) -> u32
     ensures { WalkedAll log.now out.old out.new result × (log.now ≡ log.now) }
 {
     if out.len() < TOTALS {

@@ -1,64 +1,52 @@
 // Words and numbers on standard output.
-use libc::STDOUT_FILENO;
+use std::io;
 
 // How an answer ends: with no more, with its one number, the next place, the next place where nothing stood, a refusal's number.
-pub(crate) const NO: u8 = 0;
-
-pub(crate) const IS: u8 = 1;
-
-pub(crate) const NEXT: u8 = 2;
-
-pub(crate) const ABSENT: u8 = 3;
-
-pub(crate) const REFUSED: u8 = 4;
-
-pub(crate) fn say(word: &[u8]) {
-    io::write_all(STDOUT_FILENO, word);
+#[derive(Clone, Copy)]
+pub(crate) enum Last {
+    No,
+    Is(u64),
+    Next(usize),
+    Absent(usize),
+    Refused(u32),
 }
 
-pub(crate) fn number(n: u64) {
-    io::print_decimal(STDOUT_FILENO, n);
-    say(b" ");
+pub(crate) fn say(rt: &impl Print, word: &[u8]) -> io::Result<()> {
+    rt.write_all(word)
 }
 
-pub(crate) fn small(n: u32) {
-    number(n as u64);
+pub(crate) fn number(rt: &impl Print, n: u64) -> io::Result<()> {
+    print!(rt; "{n} ")
+}
+
+pub(crate) fn small(rt: &impl Print, n: u32) -> io::Result<()> {
+    print!(rt; "{n} ")
 }
 
 // The bits of a float, in digits of sixteen.
-pub(crate) fn bits(n: u64, width: usize) {
-    io::print_hex(STDOUT_FILENO, n, width);
-    say(b" ");
+pub(crate) fn bits_32(rt: &impl Print, n: u32) -> io::Result<()> {
+    print!(rt; "{n:08x} ")
+}
+
+pub(crate) fn bits_64(rt: &impl Print, n: u64) -> io::Result<()> {
+    print!(rt; "{n:016x} ")
 }
 
 // The sign of a number whose size follows.
-pub(crate) fn sign(minus: bool) {
-    if minus {
-        say(b"-");
-    }
+pub(crate) fn sign(rt: &impl Print, minus: bool) -> io::Result<()> {
+    if minus { print!(rt; "-") } else { Ok(()) }
 }
 
-// Below zero, -1 - z is one less than the number's size, and fits.
-pub(crate) fn signed(z: i64) {
-    if z < 0 {
-        let m = -1 - z;
-        say(b"-");
-        number((m as u64) + 1);
-    } else {
-        number(z as u64);
-    }
+pub(crate) fn signed(rt: &impl Print, z: i64) -> io::Result<()> {
+    print!(rt; "{z} ")
 }
 
-pub(crate) fn end(word: u8, n: usize) {
-    match word {
-        NO => {
-            say(b"no");
-            return;
-        }
-        NEXT => say(b"next "),
-        ABSENT => say(b"absent next "),
-        REFUSED => say(b"refused "),
-        _ => {}
+pub(crate) fn end(rt: &impl Print, last: Last) -> io::Result<()> {
+    match last {
+        Last::No => print!(rt; "no"),
+        Last::Is(n) => print!(rt; "{n}"),
+        Last::Next(p) => print!(rt; "next {p}"),
+        Last::Absent(p) => print!(rt; "absent next {p}"),
+        Last::Refused(n) => print!(rt; "refused {n}"),
     }
-    io::print_decimal(STDOUT_FILENO, n as u64);
 }

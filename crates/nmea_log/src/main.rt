@@ -1,18 +1,23 @@
 // Counts a log that it reads from standard input: its lines, of these blank, accepted and refused, and its satellite groups.
-ghost use Rattle.nmea_log.specs.Code.{Brings, Fits};
+#![tactic(auto)]
+
+ghost use Rattle.std.specs.Prelude.{◌≡◌, take};
+ghost use Rattle.nmea_log.specs.Code.{Brings, Fits, Reads, Takes};
 
 use frame::Refusal;
-use libc::{STDIN_FILENO, STDOUT_FILENO};
 use logs::walk::{Counts, Walked, totals};
+use std::io;
+use std::io::{Read, Write};
+use std::process::ExitCode;
 
 // One byte more than a log may have, so that a longer one shows.
 const SPACE: usize = 65537;
 
-// How many bytes were read, or that a read failed.
+// How many bytes were read, or why a read failed.
 #[derive(Drop)]
 enum Filled {
     Is(usize),
-    Failed,
+    Failed(io::Error),
 }
 
 // What one read brought.
@@ -20,97 +25,88 @@ enum Filled {
 enum Got {
     More(usize),
     End,
-    Failed,
+    Failed(io::Error),
 }
 
-// One read from standard input.
-fn read_some(part: &mut [u8]) -> Got
-    ensures { Brings 0 result part.new }
+// One read of the input.
+fn read_some<R: Read>(input: &mut R, part: &mut [u8]) -> Got
+    ensures room { Brings 0 result part.new }
+    ensures bytes { Takes 0 result part.new (R.remaining input.old) (R.remaining input.new) }
 {
-    let got = libc::read(STDIN_FILENO, &mut *part);
-    if got < 0 {
-        return Got::Failed;
+    match input.read(part) {
+        Ok(n) => {
+            if n == 0 {
+                return Got::End;
+            }
+            Got::More(n)
+        }
+        Err(why) => Got::Failed(why),
     }
-    let n = io::count(got, part);
-    if n == 0 {
-        return Got::End;
-    }
-    Got::More(n)
 }
 
 // One read behind the bytes that are there. A full space takes no more, which ends the reading.
-fn read_after(space: &mut [u8], done: usize) -> Got
-    ensures { Brings done result space.new }
+fn read_after<R: Read>(input: &mut R, space: &mut [u8], done: usize) -> Got
+    ensures room { Brings done result space.new }
+    ensures bytes { Takes done result space.new (R.remaining input.old) (R.remaining input.new) }
+    ensures kept { take done space.new ≡ take done space.old }
 {
     if space.len() <= done {
         return Got::End;
     }
-    read_some(&mut space[done..])
+    read_some(input, &mut space[done..])
 }
 
-// Reads standard input to its end, or until the space is full. A read that fails is no end.
-fn read_log(space: &mut [u8]) -> Filled
-    ensures { Fits result space.new }
+// Reads the input to its end, or until the space is full. A read that fails is no end.
+fn read_log<R: Read>(input: &mut R, space: &mut [u8]) -> Filled
+    ensures room { Fits result space.new }
+    ensures bytes { Reads result space.new (R.remaining input.old) (R.remaining input.new) }
 {
     let mut done = 0;
     loop {
-        match read_after(&mut *space, done) {
+        match read_after(input, space, done) {
             Got::More(n) => done += n,
             Got::End => return Filled::Is(done),
-            Got::Failed => return Filled::Failed,
+            Got::Failed(why) => return Filled::Failed(why),
         }
     }
 }
 
-// A word and a number; false where standard output takes no more.
-fn print(word: &[u8], n: usize) -> bool {
-    if !io::write_all(STDOUT_FILENO, word) {
-        return false;
-    }
-    io::print_decimal(STDOUT_FILENO, n as u64)
+fn print_counts<W: Write>(out: &mut W, c: Counts) -> io::Result<()> {
+    writeln!(
+        out,
+        "lines {} blank {} accepted {} refused {} groups {}",
+        c.lines, c.blank, c.accepted, c.refused, c.groups
+    )
 }
 
-fn print_counts(c: Counts) -> bool {
-    if !print(b"lines ", c.lines) {
-        return false;
-    }
-    if !print(b" blank ", c.blank) {
-        return false;
-    }
-    if !print(b" accepted ", c.accepted) {
-        return false;
-    }
-    if !print(b" refused ", c.refused) {
-        return false;
-    }
-    print(b" groups ", c.groups)
-}
-
-fn print_refusal(why: Refusal) -> bool {
-    let n = why.number();
-    print(b"refused ", n as usize)
+fn print_refusal<W: Write>(out: &mut W, why: Refusal) -> io::Result<()> {
+    writeln!(out, "refused {}", why.number())
 }
 
 // The totals of a log, or its refusal, on a line.
-fn tell(log: &[u8]) -> bool {
-    let told = match totals(log) {
-        Walked::Refused(why) => print_refusal(why),
-        Walked::Went(c) => print_counts(c),
-    };
-    if !told {
-        return false;
+fn tell<W: Write>(out: &mut W, log: &[u8]) -> io::Result<()> {
+    match totals(log) {
+        Walked::Refused(why) => print_refusal(out, why),
+        Walked::Went(c) => print_counts(out, c),
     }
-    io::write_all(STDOUT_FILENO, b"\n")
 }
 
-// A program has no exit status: what failed is told on standard error, and a log that was not read whole is not counted.
-fn main() {
+// What failed, and why, on standard error.
+fn fail(rt: &impl Eprint, what: &str, why: io::Error) -> ExitCode {
+    // Where that fails too, nobody is left to tell.
+    let _ = eprintln!(rt; "{what}: {why}");
+    ExitCode::FAILURE
+}
+
+// What failed is told on standard error, and a log that was not read whole is not counted.
+fn main(rt: HostRuntime) -> ExitCode {
     let mut space = [0u8; SPACE];
-    let Filled::Is(n) = read_log(&mut space) else {
-        os::fail(b"standard input");
-        return;
+    let n = match read_log(&mut rt.stdin(), &mut space) {
+        Filled::Is(n) => n,
+        Filled::Failed(why) => return fail(&rt, "standard input", why),
     };
-    if !tell(&space[..n]) {
-        os::fail(b"standard output");
+    match tell(&mut rt.stdout(), &space[..n]) {
+        Ok(()) => ExitCode::SUCCESS,
+        Err(why) => fail(&rt, "standard output", why),
     }
 }

@@ -1,11 +1,18 @@
 // Replays a fixed list of lines and expected answers (standard input; its first line says how it was made) against the proved reader:
 // a frame is two bytes, the length of a line, low byte first, the line, and the 40 words of docs/ABI.md, 8 bytes each, low byte first.
-use libc::{STDIN_FILENO, STDOUT_FILENO};
+#![tactic(auto)]
+
+use std::io;
+use std::io::{ErrorKind, Read};
+use std::process::ExitCode;
 
 // How many words an answer has, and how many bytes these are.
 const WORDS: u32 = 40;
 
 const BYTES: usize = 320;
+
+// The longest line that is replayed.
+const SPACE: usize = 4096;
 
 // More frames, and more bytes of the first line, than any list has: a program must end.
 const MOST: u64 = 4000000000;
@@ -57,8 +64,7 @@ fn same_word(bytes: &[u8], i: u32, word: u64) -> bool {
 
 // Whether all words are those that are expected.
 fn same_words(words: &[u64], expected: &[u8]) -> bool {
-    let mut i: u32 = 0;
-    while i < WORDS {
+    for i in 0..WORDS {
         let k = i as usize;
         if words.len() <= k {
             return false;
@@ -67,31 +73,44 @@ fn same_words(words: &[u64], expected: &[u8]) -> bool {
         if !same_word(expected, i, word) {
             return false;
         }
-        i += 1;
     }
     true
 }
 
+// Fills a part; false where the input ends before it is full.
+fn fill<R: Read>(input: &mut R, part: &mut [u8]) -> io::Result<bool> {
+    match input.read_exact(part) {
+        Ok(()) => Ok(true),
+        Err(why) => {
+            if why.kind() == ErrorKind::UnexpectedEof {
+                Ok(false)
+            } else {
+                Err(why)
+            }
+        }
+    }
+}
+
 // Reads the expected answer to a line, and holds ours against it.
-fn answer(line: &[u8]) -> Frame {
+fn answer<R: Read>(input: &mut R, line: &[u8]) -> io::Result<Frame> {
     let mut expected = [0u8; BYTES];
-    if io::read_full(STDIN_FILENO, &mut expected) < BYTES {
-        return Frame::Cut;
+    if !fill(input, &mut expected)? {
+        return Ok(Frame::Cut);
     }
     let mut words = [0u64; WORDS as usize];
     capi::nmea_answer(line, &mut words);
     if same_words(&words, &expected) {
-        return Frame::Same;
+        return Ok(Frame::Same);
     }
-    Frame::Differs
+    Ok(Frame::Differs)
 }
 
 // Reads a line that fills `line`, and replays it.
-fn line_of(line: &mut [u8]) -> Frame {
-    if io::read_full(STDIN_FILENO, &mut *line) < line.len() {
-        return Frame::Cut;
+fn line_of<R: Read>(input: &mut R, line: &mut [u8]) -> io::Result<Frame> {
+    if !fill(input, &mut *line)? {
+        return Ok(Frame::Cut);
     }
-    answer(line)
+    answer(input, line)
 }
 
 // The length that two bytes write, low byte first.
@@ -99,84 +118,50 @@ fn length_of(low: u8, high: u8) -> usize {
     (low as usize) + (high as usize) * 256
 }
 
-// Reads one frame into `space`, and replays it.
-fn next(space: &mut [u8]) -> Frame {
+// Reads one frame into `space`, and replays it. A list ends before the first byte of a frame.
+fn next<R: Read>(input: &mut R, space: &mut [u8]) -> io::Result<Frame> {
     let mut head = [0u8; 2];
-    let got = io::read_full(STDIN_FILENO, &mut head);
-    if got == 0 {
-        return Frame::End;
+    if !fill(input, &mut head[..1])? {
+        return Ok(Frame::End);
     }
-    if got < 2 {
-        return Frame::Cut;
+    if !fill(input, &mut head[1..])? {
+        return Ok(Frame::Cut);
     }
     let n = length_of(head[0], head[1]);
     if space.len() < n {
-        return Frame::Cut;
+        return Ok(Frame::Cut);
     }
-    line_of(&mut space[..n])
+    line_of(input, &mut space[..n])
 }
 
 // Passes over the first line; false where the list has none.
-fn skip_title() -> bool {
+fn skip_title<R: Read>(input: &mut R) -> io::Result<bool> {
     let mut b = [0u8; 1];
-    let mut read: u64 = 0;
-    while read < MOST {
-        if io::read_full(STDIN_FILENO, &mut b) < 1 {
-            return false;
+    for _ in 0..MOST {
+        if !fill(input, &mut b)? {
+            return Ok(false);
         }
         if b[0] == b'\n' {
-            return true;
+            return Ok(true);
         }
-        read += 1;
     }
-    false
+    Ok(false)
 }
 
-// A word and a number; false where standard output takes no more.
-fn print(word: &[u8], n: u64) -> bool {
-    if !io::write_all(STDOUT_FILENO, word) {
-        return false;
-    }
-    io::print_decimal(STDOUT_FILENO, n)
-}
-
-// Names a line whose answer differs.
-fn print_differs(line: u64) -> bool {
-    if !print(b"differs: line ", line) {
-        return false;
-    }
-    io::write_all(STDOUT_FILENO, b"\n")
-}
-
-// How many lines the list has, how many of them differ, and whether it was cut off.
-fn print_counts(lines: u64, differ: u64, cut: u64) -> bool {
-    if !print(b"replayed ", lines) {
-        return false;
-    }
-    if !print(b" lines, differ ", differ) {
-        return false;
-    }
-    if !print(b", cut off ", cut) {
-        return false;
-    }
-    io::write_all(STDOUT_FILENO, b"\n")
-}
-
-// Replays the list and tells what it came to; false where standard output takes no more.
-fn replay() -> bool {
-    let mut space = io::buffer();
+// Replays the list and tells what it came to: each line whose answer differs, and how many lines the list has, how many of them differ,
+// and whether it was cut off.
+fn replay<R: Read>(rt: &impl Print, input: &mut R) -> io::Result<()> {
+    let mut space = [0u8; SPACE];
     let mut lines: u64 = 0;
     let mut differ: u64 = 0;
     let mut cut: u64 = 0;
     while lines < MOST {
-        match next(&mut space) {
+        match next(input, &mut space)? {
             Frame::Same => lines += 1,
             Frame::Differs => {
                 lines += 1;
                 differ += 1;
-                if !print_differs(lines) {
-                    return false;
-                }
+                println!(rt; "differs: line {lines}")?;
             }
             Frame::End => break,
             Frame::Cut => {
@@ -185,15 +170,15 @@ fn replay() -> bool {
             }
         }
     }
-    print_counts(lines, differ, cut)
+    println!(rt; "replayed {lines} lines, differ {differ}, cut off {cut}")
 }
 
-fn main() {
-    if !skip_title() {
-        os::fail(b"standard input");
-        return;
+fn main(rt: HostRuntime) -> io::Result<ExitCode> {
+    let mut input = rt.stdin();
+    if !skip_title(&mut input)? {
+        eprintln!(rt; "standard input: the list has no first line")?;
+        return Ok(ExitCode::FAILURE);
     }
-    if !replay() {
-        os::fail(b"standard output");
-    }
+    replay(&rt, &mut input)?;
+    Ok(ExitCode::SUCCESS)
 }

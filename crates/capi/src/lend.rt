@@ -10,9 +10,9 @@ ghost use Rattle.capi.specs.Lend.{Freshened, code, GatheredLine, row_room, row_h
 ghost use Rattle.capi.specs.Code.{taken_code, ReadAs};
 
 use crate::{DONE, UNDONE};
-use intake::Taken;
 use gather::lent;
 use gather::line::Outcome;
+use intake::Taken;
 use words::{ENTRY_WORDS, WORDS};
 
 // Where in the words of a row that is read its system stands, n, the number waited for, the in-view count, the count of entries, and an

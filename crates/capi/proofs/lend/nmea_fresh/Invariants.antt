@@ -1,0 +1,11 @@
+-- What each turn of the loop keeps, and what falls.
+use Rattle.std.proofs.Common.{◌≡◌, ℕ, ◌-◌, ◌≤◌, List, length, set, sym, refl, ap, ◌∙◌, subst, arith}
+use Rattle.capi.specs.Lend.{Freshened}
+use Rattle.capi.proofs.Lending.{cleared, cleared-long, cleared-next, all-cleared, not-cleared}
+use Rattle.capi.proofs.lend.nmea_fresh.Given as goal
+
+abbrev pub invariant-loop-i : goal.invariant-loop-i
+invariant-loop-i l = (l.i ≤ 888) × (l.table ≡ cleared l.initial.table l.i)
+
+abbrev pub decreases-loop-i : goal.decreases-loop-i
+decreases-loop-i l = 888 - l.i

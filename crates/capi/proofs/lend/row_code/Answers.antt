@@ -1,0 +1,7 @@
+-- `row_code` meets its contract: outcome by outcome. Assumes nothing.
+use Rattle.std.proofs.Common.{rules}
+use Rattle.capi.proofs.Lending.{last-code}
+use Rattle.capi.proofs.lend.row_code.Goals as goal
+
+pub returns-in-Complete : goal.returns-in-Complete
+returns-in-Complete c = last-code _ _ c.in-Complete.is

@@ -1,3 +1,2 @@
 // No second answer meets a contract: see proofs/.
 #![tactic(auto)]
-

@@ -1,7 +1,7 @@
 -- "A non-empty text that is not a plain decimal within limits is Number, exactly then": a decimal place answers Number where,
 -- and only where, a text stands that 01's words do not call a plain decimal; a decimal where, and only where, they do. The
 -- digits at a text's front and what follows them are put together again, and taken apart. Assumes nothing.
-use Prim.Native.Nat.{ℕ, ◌+◌, ◌<◌}
+use Prim.Native.Nat.{ℕ, ◌<◌}
 use native.Mathlib.Omega.{arith}
 use mathlib.Core.Path.{◌≡◌, refl, ap, sym, ◌∙◌, subst}
 use mathlib.Core.Bool.{Bool, true, false, cond, ◌&&◌}

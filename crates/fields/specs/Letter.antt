@@ -1,7 +1,7 @@
 -- Letters: one of a list with its comma, and the letter of a unit, which may be missing.
 use Rattle.std.specs.Prelude.{ℕ, List}
 use Rattle.text.specs.Bytes.{byte, bytes}
-use Rattle.text.specs.Reader.{Reader, ◌>>=◌, ◌>>◌, pure, opt, char, letter_of}
+use Rattle.text.specs.Reader.{Reader, ◌>>◌, pure, opt, char, letter_of}
 use Rattle.fields.specs.Place.{with_comma}
 
 -- how a position was found: the letters of faa_mode.rs

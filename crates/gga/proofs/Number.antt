@@ -1,15 +1,14 @@
 -- 01: "A non-empty text that is not a plain decimal within limits is Number, exactly then .. Checks run left to right." The data of
 -- a GGA sentence has six decimal places, and is answered Number exactly where one of them is reached and bad. Assumes nothing.
-use Prim.Native.Nat.{ℕ}
 use mathlib.Core.List.{List, [], ◌∷◌, ◌++◌}
 use Rattle.text.specs.Bytes.{byte}
-use Rattle.text.specs.Reader.{Fault, Reader, ◌>>=◌, ◌>>◌, char}
+use Rattle.text.specs.Reader.{Fault, Reader, ◌>>◌, char}
 use Rattle.text.specs.Number.{two_bytes, three_bytes}
 use Rattle.text.proofs.Faults.{Never, never-bind, never-pure, never-opt, never-number}
 use Rattle.decimal.specs.Decimal.{short, long}
 use Rattle.decimal.proofs.Number.{Place, place, here, NumberAt, behind, never, both, first, short-number}
 use Rattle.fields.specs.Position.{latitude}
-use Rattle.fields.specs.Place.{time_place, position_place, short_place}
+use Rattle.fields.specs.Place.{time_place, short_place}
 use Rattle.fields.specs.Letter.{unit_place}
 use Rattle.fields.proofs.Number.{time_places, position_places, time-number, position-number, never-with, with-comma, never-letter-place, never-unit, never-unit-place}
 use Rattle.gga.specs.Gga.{fix_digits, satellites_max, satellites_place, fix_part, height, gga}

@@ -1,10 +1,9 @@
 -- 01: "A non-empty text that is not a plain decimal within limits is Number, exactly then .. Checks run left to right." The data of
 -- a GLL sentence has three decimal places, and is answered Number exactly where one of them is reached and bad. Assumes nothing.
-use Prim.Native.Nat.{ℕ}
 use mathlib.Core.List.{List, [], ◌∷◌}
 use mathlib.Core.Option.{none}
 use Rattle.text.specs.Bytes.{byte}
-use Rattle.text.specs.Reader.{Fault, Reader, ◌>>=◌, ◌>>◌, pure, char, letter_of}
+use Rattle.text.specs.Reader.{Fault, Reader, ◌>>◌, char}
 use Rattle.text.specs.Number.{two_bytes, three_bytes}
 use Rattle.text.proofs.Faults.{Never, clear-got, never-bind, never-pure, never-letter_of}
 use Rattle.decimal.specs.Decimal.{long}

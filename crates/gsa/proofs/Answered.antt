@@ -9,7 +9,7 @@ use Rattle.text.specs.Placed.{Placed, unread, refused, upto, left, Reads}
 use Rattle.text.proofs.Places.{stop, go, done}
 use Rattle.text.specs.Value.{Value, syntax, fault as refusal, is, value}
 use Rattle.gsa.specs.Gsa.{Gsa, gsa}
-use Rattle.gsa.specs.Answer.{system, ending, emptied, Row, gsa_of, said, Answers, without}
+use Rattle.gsa.specs.Answer.{ending, emptied, Row, gsa_of, said, Answers, without}
 use Rattle.gsa.specs.declared.Ending.{Ending}
 use Rattle.gsa.specs.declared.Ending.TheVariants.{No as NoEnding, Is as AnEnding}
 use Rattle.gsa.specs.declared.GsaHead.{GsaHead}

@@ -5,7 +5,7 @@ use Prim.Native.Nat.{ℕ}
 use mathlib.Core.List.{List, [], ◌∷◌, ◌++◌}
 use mathlib.Core.Option.{Option, none, some}
 use Rattle.text.specs.Bytes.{byte}
-use Rattle.text.specs.Reader.{Fault, Reader, ◌>>=◌, ◌>>◌, char}
+use Rattle.text.specs.Reader.{Fault, Reader, ◌>>◌, char}
 use Rattle.text.specs.Number.{two_bytes, three_bytes}
 use Rattle.text.proofs.Faults.{Never, never-bind, never-pure, never-opt, never-char, never-letter_of}
 use Rattle.decimal.specs.Decimal.{short, long}

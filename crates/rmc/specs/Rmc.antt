@@ -14,7 +14,7 @@
 use Rattle.std.specs.Prelude.{ℕ, List}
 use Rattle.std.proofs.Math.Option.{Option, none, some}
 use Rattle.text.specs.Bytes.{byte, bytes}
-use Rattle.text.specs.Reader.{Reader, pure, opt, char, letter_of, ◌>>=◌, ◌>>◌}
+use Rattle.text.specs.Reader.{Reader, pure, opt, char, letter_of, ◌>>=◌}
 use Rattle.decimal.specs.Places.{Short}
 use Rattle.fields.specs.Time.{Time}
 use Rattle.fields.specs.Date.{Date}

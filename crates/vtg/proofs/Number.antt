@@ -1,10 +1,9 @@
 -- 01: "A non-empty text that is not a plain decimal within limits is Number, exactly then .. Checks run left to right." The data of
 -- a VTG sentence has four decimal places, and is answered Number exactly where one of them is reached and bad: also at the magnetic
 -- course, which is not kept, and in the field of the N, where no other text may stand. Assumes nothing.
-use Prim.Native.Nat.{ℕ}
 use mathlib.Core.List.{List, [], ◌∷◌}
 use Rattle.text.specs.Bytes.{byte}
-use Rattle.text.specs.Reader.{Reader, ◌>>=◌, ◌>>◌}
+use Rattle.text.specs.Reader.{Reader, ◌>>◌}
 use Rattle.text.proofs.Faults.{never-bind, never-pure}
 use Rattle.decimal.specs.Decimal.{short}
 use Rattle.decimal.proofs.Number.{Place, place, here, NumberAt, behind, never, both, first, short-number}

@@ -1,6 +1,6 @@
 -- The power of ten meets its contract: it is 1 at exponent 0, and ten times the power below at another.
-use mathlib.Core.Path.{sym, ap, ◌∙◌}
-use Prim.Native.Nat.{ℕ, ◌*◌, ◌^◌}
+use mathlib.Core.Path.{ap, ◌∙◌}
+use Prim.Native.Nat.{ℕ, ◌*◌}
 use Rattle.decimal.proofs.Power.{ten-times}
 use Rattle.decimal.proofs.+tens.Goals as goal
 

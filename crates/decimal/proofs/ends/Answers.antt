@@ -1,7 +1,6 @@
 -- `ends` meets its contract: past the end nothing is left, and within it a comma ends the place. Assumes nothing.
 use mathlib.Core.Path.{refl}
 use Rattle.text.proofs.Places.{here, ended}
-use borrow.Author.Rules.{rules}
 use Rattle.decimal.proofs.ends.Goals as goal
 
 pub returns-then-s-at : goal.returns-then-s-at

@@ -12,7 +12,6 @@ use Rattle.decimal.proofs.Power.{capped, minutes-lt}
 use Rattle.decimal.proofs.Bounds.{Bounded, held}
 use Rattle.decimal.proofs.Exact.{of-billionths}
 use Rattle.decimal.proofs.Order.{sign-alone, nothing, some-digits, no-digits}
-use borrow.Author.Rules.{rules}
 use Rattle.decimal.proofs.long_decimal.Goals as goal
 
 pub returns-then-first : goal.returns-then-first

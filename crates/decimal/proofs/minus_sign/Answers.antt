@@ -4,7 +4,6 @@ use mathlib.Core.Path.{refl, ap}
 use Rattle.text.specs.Answer.{next}
 use Rattle.text.proofs.Places.{took, missed, a-read}
 use Rattle.decimal.proofs.Order.{sign-there, sign-not}
-use borrow.Author.Rules.{rules}
 use Rattle.decimal.proofs.minus_sign.Goals as goal
 
 pub returns-in-No : goal.returns-in-No

@@ -8,7 +8,6 @@ use lib.IntN.{pos}
 use lib.Ieee.{binary32, round, div, neg, of_int}
 use Rattle.decimal.proofs.Power.{under, capped}
 use Rattle.decimal.proofs.Exact.{in-float, divided, neg-round}
-use borrow.Author.Rules.{rules}
 use Rattle.decimal.proofs.nearest_f32.Goals as goal
 
 pub overflow_cast-power : goal.overflow_cast-power

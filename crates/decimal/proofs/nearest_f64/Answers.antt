@@ -6,7 +6,6 @@ use mathlib.Core.Path.{ap, ◌∙◌}
 use lib.Ieee.{binary64, neg}
 use Rattle.decimal.proofs.Exact.{in-float, div-whole, neg-round}
 use Rattle.decimal.proofs.Negation.{size64}
-use borrow.Author.Rules.{rules}
 use Rattle.decimal.proofs.nearest_f64.Goals as goal
 
 pub int_to_float-value : goal.int_to_float-value

@@ -1,7 +1,6 @@
 -- `pow10` meets its contract: the power of the smaller exponent. Assumes nothing.
 use Prim.Native.Nat.{ℕ, ◌^◌}
 use mathlib.Core.Path.{ap, ◌∙◌}
-use borrow.Author.Rules.{rules}
 use Rattle.decimal.proofs.pow10.Goals as goal
 
 pub returns : goal.returns

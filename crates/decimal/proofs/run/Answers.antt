@@ -1,10 +1,7 @@
 -- `run` meets its contract: at the loop's head, the run from there on with what was counted is the whole run. Assumes nothing.
-use Prim.Native.Nat.{◌+◌, ◌-◌, ◌*◌, ◌^◌, ◌≤◌, ◌<◌, max}
+use Prim.Native.Nat.{◌+◌}
 use native.Mathlib.Omega.{arith}
-use mathlib.Core.Path.{◌≡◌, refl, ◌∙◌}
-use lib.ListN.{length, drop}
-use borrow.Author.Rules.{rules}
-use Rattle.decimal.specs.Code.{run}
+use mathlib.Core.Path.{refl, ◌∙◌}
 use Rattle.text.proofs.Places.{a-read, bad-read}
 use Rattle.decimal.proofs.Runs.{run-more, run-stop, run-over, run-end, digit-more, room}
 use Rattle.decimal.proofs.run.Goals as goal

@@ -1,12 +1,8 @@
 -- What each turn of the loop keeps, and what falls.
 use Prim.Native.Nat.{◌+◌, ◌-◌, ◌*◌, ◌^◌, ◌≤◌, ◌<◌, max}
-use native.Mathlib.Omega.{arith}
-use mathlib.Core.Path.{◌≡◌, refl, ◌∙◌}
+use mathlib.Core.Path.{◌≡◌}
 use lib.ListN.{length, drop}
-use borrow.Author.Rules.{rules}
 use Rattle.decimal.specs.Code.{run}
-use Rattle.text.proofs.Places.{a-read, bad-read}
-use Rattle.decimal.proofs.Runs.{run-more, run-stop, run-over, run-end, digit-more, room}
 use Rattle.decimal.proofs.run.Given as goal
 
 abbrev pub invariant-loop-i : goal.invariant-loop-i

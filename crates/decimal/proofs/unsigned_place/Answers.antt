@@ -8,7 +8,6 @@ use Rattle.decimal.specs.Decimal.{limits}
 use Rattle.decimal.specs.Answer.{ran}
 use Rattle.decimal.proofs.Cases.{Begun, Pointed, Closed, none-at, over-at, few-before, zero-at, whole-at, other-at, room-at, long-at, no-digits-at, good-at, junk-at}
 use Rattle.decimal.proofs.Power.{under}
-use borrow.Author.Rules.{rules}
 use Rattle.decimal.proofs.unsigned_place.Goals as goal
 
 pub returns-then-ends : goal.returns-then-ends

@@ -2,7 +2,6 @@
 use native.Mathlib.Omega.{arith}
 use lib.IntN.{pos}
 use Rattle.decimal.proofs.Negation.{size32, fits32, back32}
-use borrow.Author.Rules.{rules}
 use Rattle.decimal.proofs.whole_of.Goals as goal
 
 pub overflow_sub-result : goal.overflow_sub-result

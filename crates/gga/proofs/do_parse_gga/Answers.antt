@@ -3,7 +3,6 @@ use mathlib.Core.Path.{refl}
 use Rattle.text.proofs.Texts.{text-none, text-bad, text-some}
 use Rattle.gga.specs.Gga.{gga}
 use Rattle.gga.proofs.Steps.{parts}
-use borrow.Author.Rules.{rules}
 use Rattle.gga.proofs.do_parse_gga.Goals as goal
 
 pub returns-in-No : goal.returns-in-No

@@ -2,7 +2,6 @@
 use mathlib.Core.Path.{refl}
 use Rattle.gga.specs.Gga.{fix_part}
 use Rattle.gga.proofs.Steps.{parts}
-use borrow.Author.Rules.{rules}
 use Rattle.gga.proofs.fix_part.Goals as goal
 
 pub returns-in_default : goal.returns-in_default

@@ -2,7 +2,6 @@
 use mathlib.Core.Path.{refl}
 use Rattle.fields.specs.Place.{with_comma}
 use Rattle.gga.proofs.Steps.{parts}
-use borrow.Author.Rules.{rules}
 use Rattle.gga.proofs.satellites_place.Goals as goal
 
 pub returns-in_default : goal.returns-in_default

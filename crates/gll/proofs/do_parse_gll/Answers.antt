@@ -3,7 +3,6 @@ use mathlib.Core.Path.{refl}
 use Rattle.text.proofs.Texts.{text-none, text-bad, text-some}
 use Rattle.gll.specs.Gll.{gll}
 use Rattle.gll.proofs.Steps.{parts}
-use borrow.Author.Rules.{rules}
 use Rattle.gll.proofs.do_parse_gll.Goals as goal
 
 pub returns-in_default : goal.returns-in_default

@@ -11,7 +11,6 @@ use Rattle.text.proofs.Places.{here, ended, a-read, alike, done}
 use Rattle.text.proofs.Steps.{stop-letter, go-letter}
 use Rattle.fields.specs.Letter.{mode_letters}
 use Rattle.gll.specs.Gll.{mode}
-use borrow.Author.Rules.{rules}
 use Rattle.gll.proofs.mode.Goals as goal
 
 within : {s : List ℕ} {at : ℕ} {r : Placed (Option ℕ)} → at < length s → Reads s at (letter_of mode_letters >>= λ m. pure (some m)) r → Reads s at mode r

@@ -1,14 +1,10 @@
 -- `commas` meets its contract: past the first comma, what is skipped from there is what is skipped from `i`. The measure is
 -- what is left of the text. Assumes nothing.
-use Prim.Native.Nat.{◌-◌, ◌≤◌, max}
 use native.Mathlib.Omega.{arith}
-use mathlib.Core.Path.{◌≡◌, refl, ap, ◌∙◌}
-use borrow.Author.Rules.{rules}
-use lib.ListN.{length, drop}
-use Rattle.text.specs.Bytes.{byte}
+use mathlib.Core.Path.{refl, ap, ◌∙◌}
 use Rattle.text.specs.Answer.{next}
 use Rattle.text.proofs.Places.{a-read, stop, go}
-use Rattle.text.specs.Many.{take_while1, skip}
+use Rattle.text.specs.Many.{take_while1}
 use Rattle.gsa.proofs.Ends.{skip-more, skip-stop, skip-end}
 use Rattle.gsa.proofs.commas.Goals as goal
 

@@ -1,14 +1,9 @@
 -- What each turn of the loop keeps, and what falls.
 use Prim.Native.Nat.{◌-◌, ◌≤◌, max}
-use native.Mathlib.Omega.{arith}
-use mathlib.Core.Path.{◌≡◌, refl, ap, ◌∙◌}
-use borrow.Author.Rules.{rules}
+use mathlib.Core.Path.{◌≡◌}
 use lib.ListN.{length, drop}
 use Rattle.text.specs.Bytes.{byte}
-use Rattle.text.specs.Answer.{next}
-use Rattle.text.proofs.Places.{a-read, stop, go}
-use Rattle.text.specs.Many.{take_while1, skip}
-use Rattle.gsa.proofs.Ends.{skip-more, skip-stop, skip-end}
+use Rattle.text.specs.Many.{skip}
 use Rattle.gsa.proofs.commas.Given as goal
 
 abbrev pub invariant-loop-i : goal.invariant-loop-i

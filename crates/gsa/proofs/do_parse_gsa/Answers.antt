@@ -3,13 +3,11 @@
 use Prim.Native.Nat.{ℕ}
 use mathlib.Core.Path.{refl}
 use Rattle.text.specs.Reader.{Reader, ◌>>=◌, pure, alt}
-use Rattle.text.specs.Placed.{Placed, Reads}
 use Rattle.text.proofs.Places.{done}
 use Rattle.text.proofs.Steps.{go-letter, go-next}
 use Rattle.gsa.specs.Gsa.{Gsa, empty_tail, full_tail, gsa}
 use Rattle.gsa.proofs.Answered.{syntax-answer, number-answer, empty-answer, full-answer}
 use Rattle.gsa.proofs.Steps.{go-empty, stop-tail, fail-tail, go-tail, steps}
-use borrow.Author.Rules.{rules}
 use Rattle.gsa.proofs.do_parse_gsa.Goals as goal
 
 -- what is read after mode and fix

@@ -2,7 +2,6 @@
 use mathlib.Core.Path.{refl}
 use Rattle.gsa.specs.Gsa.{dop}
 use Rattle.gsa.proofs.Steps.{steps}
-use borrow.Author.Rules.{rules}
 use Rattle.gsa.proofs.dop.Goals as goal
 
 pub returns-in-Absent : goal.returns-in-Absent

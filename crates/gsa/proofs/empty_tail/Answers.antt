@@ -4,7 +4,6 @@ use Rattle.text.specs.Answer.{next}
 use Rattle.text.proofs.Places.{stop, go}
 use Rattle.gsa.specs.Gsa.{empty_tail}
 use Rattle.gsa.proofs.Answered.{empty-of}
-use borrow.Author.Rules.{rules}
 use Rattle.gsa.proofs.empty_tail.Goals as goal
 
 pub returns-in_default : goal.returns-in_default

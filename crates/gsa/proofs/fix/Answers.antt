@@ -3,7 +3,6 @@ use native.Mathlib.Omega.{arith}
 use mathlib.Core.Path.{refl}
 use Rattle.text.proofs.Places.{a-read, no-read}
 use Rattle.gsa.proofs.Ends.{fix-past, fix-below, fix-above, fix-is}
-use borrow.Author.Rules.{rules}
 use Rattle.gsa.proofs.fix.Goals as goal
 
 pub returns-then-s-at : goal.returns-then-s-at

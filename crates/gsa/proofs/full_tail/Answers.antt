@@ -2,7 +2,6 @@
 use mathlib.Core.Path.{refl}
 use Rattle.gsa.specs.Gsa.{full_tail}
 use Rattle.gsa.proofs.Steps.{steps}
-use borrow.Author.Rules.{rules}
 use Rattle.gsa.proofs.full_tail.Goals as goal
 
 pub returns-in-No : goal.returns-in-No

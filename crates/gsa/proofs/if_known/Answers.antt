@@ -3,7 +3,6 @@ use mathlib.Core.Path.{ap, sym, ◌∙◌}
 use Rattle.text.specs.Answer.{held}
 use Rattle.text.specs.declared.Held.{Held}
 use Rattle.gsa.specs.Gsa.{if_known}
-use borrow.Author.Rules.{rules}
 use Rattle.gsa.proofs.if_known.Goals as goal
 
 pub returns-in-Known : goal.returns-in-Known

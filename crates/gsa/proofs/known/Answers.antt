@@ -1,6 +1,5 @@
 -- `known` meets its contract: it tests both bounds of the systems' numbers. Assumes nothing.
 use Rattle.gsa.proofs.Systems.{known-below, known-above, known-is}
-use borrow.Author.Rules.{rules}
 use Rattle.gsa.proofs.known.Goals as goal
 
 pub returns-then-n : goal.returns-then-n

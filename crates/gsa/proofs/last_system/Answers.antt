@@ -5,7 +5,6 @@ use Rattle.text.proofs.Steps.{go-field}
 use Rattle.text.specs.Many.{all_consuming}
 use Rattle.gsa.specs.Gsa.{last_system}
 use Rattle.gsa.proofs.Ends.{at-end, not-end}
-use borrow.Author.Rules.{rules}
 use Rattle.gsa.proofs.last_system.Goals as goal
 
 pub returns-then-at-s : goal.returns-then-at-s

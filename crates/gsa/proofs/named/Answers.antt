@@ -3,7 +3,6 @@ use Prim.Native.Nat.{ℕ}
 use mathlib.Core.Path.{ap, sym, ◌∙◌}
 use Rattle.gsa.specs.System.{named}
 use Rattle.gsa.proofs.Systems.{unnamed-b, unnamed}
-use borrow.Author.Rules.{rules}
 use Rattle.gsa.proofs.named.Goals as goal
 
 pub returns-then-a-eq71 : goal.returns-then-a-eq71

@@ -4,7 +4,6 @@ use Rattle.text.specs.Answer.{next, whole_at}
 use Rattle.text.proofs.Places.{stop, go, done, done-as, opt-some, opt-none}
 use Rattle.text.proofs.Steps.{go-next}
 use Rattle.gsa.specs.Gsa.{after_comma, opt_system}
-use borrow.Author.Rules.{rules}
 use Rattle.gsa.proofs.opt_system.Goals as goal
 
 pub returns-in_default : goal.returns-in_default

@@ -17,7 +17,6 @@ use Rattle.text.proofs.Places.{took, no-read, stop, go, done, opt-some, opt-none
 use Rattle.text.specs.declared.Next.{Next}
 use Rattle.text.specs.declared.Next.TheVariants.{At}
 use Rattle.gsa.specs.Gsa.{comma, item, item_max}
-use borrow.Author.Rules.{rules}
 use Rattle.gsa.proofs.prn_field.Goals as goal
 
 -- where a comma stands there is no number

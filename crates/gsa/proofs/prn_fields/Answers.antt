@@ -1,14 +1,13 @@
 -- `prn_fields` meets its contract: each turn reads one item, and keeps what `Going` says of the items so far. The measure is
 -- what is left of the text. Assumes nothing.
-use Prim.Native.Nat.{◌-◌, ◌<◌}
+use Prim.Native.Nat.{◌<◌}
 use mathlib.Core.Path.{refl, ap}
-use lib.ListN.{length}
 use borrow.Author.Rules.{rules}
 use Rattle.text.specs.Answer.{held}
 use Rattle.text.proofs.Places.{Took, took, missed}
 use Rattle.gsa.specs.Gsa.{item, kept}
 use Rattle.gsa.specs.Answer.{item_at}
-use Rattle.gsa.proofs.Items.{Going, start, stop, is-row, at-most, free, cells-length, moves, dropped, skipped, taken}
+use Rattle.gsa.proofs.Items.{start, stop, is-row, at-most, free, cells-length, moves, dropped, skipped, taken}
 use Rattle.gsa.proofs.prn_fields.Goals as goal
 
 pub loop-v-init : goal.loop-v-init

@@ -3,7 +3,6 @@
 use mathlib.Core.Path.{refl, ap, sym, ◌∙◌}
 use Rattle.gsa.specs.Answer.{system}
 use Rattle.gsa.proofs.Systems.{both, agree, differ}
-use borrow.Author.Rules.{rules}
 use Rattle.gsa.proofs.settle.Goals as goal
 
 pub returns-in_default : goal.returns-in_default

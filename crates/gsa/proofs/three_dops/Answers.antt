@@ -4,7 +4,6 @@ use Rattle.gsa.specs.Gsa.{dops}
 use Rattle.text.proofs.Places.{done}
 use Rattle.text.proofs.Steps.{go-next}
 use Rattle.gsa.proofs.Steps.{go-dop, steps}
-use borrow.Author.Rules.{rules}
 use Rattle.gsa.proofs.three_dops.Goals as goal
 
 pub returns-in_default : goal.returns-in_default

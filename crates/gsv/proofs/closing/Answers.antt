@@ -3,7 +3,6 @@ use native.Mathlib.Omega.{arith}
 use mathlib.Core.Path.{refl}
 use Rattle.text.proofs.Places.{here, ended, a-read, alike}
 use Rattle.gsv.specs.Gsv.{closing}
-use borrow.Author.Rules.{rules}
 use Rattle.gsv.proofs.closing.Goals as goal
 
 pub returns-then-s-at : goal.returns-then-s-at

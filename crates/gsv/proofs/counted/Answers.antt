@@ -2,7 +2,6 @@
 use mathlib.Core.Path.{refl}
 use Rattle.gsv.proofs.Steps.{steps}
 use Rattle.gsv.specs.Gsv.{counted}
-use borrow.Author.Rules.{rules}
 use Rattle.gsv.proofs.counted.Goals as goal
 
 pub returns-in_default : goal.returns-in_default

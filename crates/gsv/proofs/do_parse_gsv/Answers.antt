@@ -1,7 +1,6 @@
 -- `do_parse_gsv` meets its contract: the head, and behind it the entries. Assumes nothing.
 use mathlib.Core.Path.{refl, ◌∙◌}
 use Rattle.gsv.proofs.Heads.{no-head, behind-head}
-use borrow.Author.Rules.{rules}
 use Rattle.gsv.proofs.do_parse_gsv.Goals as goal
 
 pub returns-in-No : goal.returns-in-No

@@ -1,7 +1,6 @@
 -- `do_parse_head` meets its contract: three numbers, one after the other. Assumes nothing.
 use mathlib.Core.Path.{refl}
 use Rattle.gsv.proofs.Steps.{steps}
-use borrow.Author.Rules.{rules}
 use Rattle.gsv.proofs.do_parse_head.Goals as goal
 
 pub returns-in_default : goal.returns-in_default

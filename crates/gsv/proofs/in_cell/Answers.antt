@@ -2,7 +2,6 @@
 use mathlib.Core.Path.{refl}
 use Rattle.gsv.proofs.Steps.{steps}
 use Rattle.gsv.specs.Gsv.{cell}
-use borrow.Author.Rules.{rules}
 use Rattle.gsv.proofs.in_cell.Goals as goal
 
 pub returns-in_default : goal.returns-in_default

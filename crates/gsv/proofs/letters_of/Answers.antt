@@ -1,5 +1,4 @@
 -- `letters_of` meets its contract: each talker has its own two letters. Assumes nothing.
-use borrow.Author.Rules.{rules}
 use Rattle.gsv.proofs.letters_of.Goals as goal
 
 pub returns-in-Ga : goal.returns-in-Ga

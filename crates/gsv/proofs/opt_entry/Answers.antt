@@ -2,7 +2,6 @@
 use mathlib.Core.Path.{refl, ap}
 use Rattle.text.proofs.Places.{opt-some, opt-none}
 use Rattle.gsv.specs.Answer.{entry_at}
-use borrow.Author.Rules.{rules}
 use Rattle.gsv.proofs.opt_entry.Goals as goal
 
 pub returns-in-Is : goal.returns-in-Is

@@ -4,7 +4,6 @@ use native.Mathlib.Omega.{arith}
 use mathlib.Core.Path.{◌≡◌, ap, sym, ◌∙◌}
 use borrow.Author.Tests.{eq-eqb, ne_eqb}
 use Rattle.gsv.specs.Talker.{row_for, talker_of}
-use borrow.Author.Rules.{rules}
 use Rattle.gsv.proofs.talker_of.Goals as goal
 
 pub returns-then-a-eq71 : goal.returns-then-a-eq71

@@ -4,7 +4,6 @@ use Rattle.text.proofs.Texts.{some-at}
 use Rattle.gsv.specs.Gsv.{with_entries}
 use Rattle.gsv.specs.Answer.{head_of}
 use Rattle.gsv.proofs.Steps.{steps}
-use borrow.Author.Rules.{rules}
 use Rattle.gsv.proofs.with_entries.Goals as goal
 
 pub returns : goal.returns

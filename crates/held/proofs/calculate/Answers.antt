@@ -1,6 +1,5 @@
 -- Framing first, then the checksum of the sentence that it found. Assumes nothing.
 use mathlib.Core.Path.{refl}
-use borrow.Author.Rules.{rules}
 use Rattle.held.proofs.Told.{told-is, told-refused}
 use Rattle.held.proofs.calculate.Goals as goal
 

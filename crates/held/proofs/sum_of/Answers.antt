@@ -1,6 +1,5 @@
 -- The bytes before the data, and then the data's own checksum. Assumes nothing.
 use mathlib.Core.Path.{refl}
-use borrow.Author.Rules.{rules}
 use Rattle.text.specs.Bytes.{byte}
 use Rattle.held.proofs.Xor.{six-then}
 use Rattle.held.proofs.sum_of.Goals as goal

@@ -3,7 +3,6 @@ use mathlib.Core.Path.{refl, ap}
 use Rattle.text.specs.Answer.{next, lettered}
 use Rattle.text.proofs.Places.{go, done, opt-some, opt-none}
 use Rattle.rmc.specs.Rmc.{opt_letter, if_comma}
-use borrow.Author.Rules.{rules}
 use Rattle.rmc.proofs.after_comma.Goals as goal
 
 pub returns-in_default : goal.returns-in_default

@@ -3,7 +3,6 @@ use mathlib.Core.Path.{refl}
 use Rattle.text.proofs.Texts.{text-none, text-bad, text-some}
 use Rattle.rmc.specs.Rmc.{rmc}
 use Rattle.rmc.proofs.Steps.{parts}
-use borrow.Author.Rules.{rules}
 use Rattle.rmc.proofs.do_parse_rmc.Goals as goal
 
 pub returns-in-No : goal.returns-in-No

@@ -2,7 +2,6 @@
 use mathlib.Core.Path.{refl}
 use Rattle.rmc.specs.Rmc.{ending}
 use Rattle.rmc.proofs.Steps.{parts}
-use borrow.Author.Rules.{rules}
 use Rattle.rmc.proofs.ending_part.Goals as goal
 
 pub returns-in-No : goal.returns-in-No

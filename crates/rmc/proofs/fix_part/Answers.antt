@@ -2,7 +2,6 @@
 use mathlib.Core.Path.{refl}
 use Rattle.rmc.specs.Rmc.{fix_part}
 use Rattle.rmc.proofs.Steps.{parts}
-use borrow.Author.Rules.{rules}
 use Rattle.rmc.proofs.fix_part.Goals as goal
 
 pub returns-in_default : goal.returns-in_default

@@ -2,7 +2,6 @@
 use mathlib.Core.Path.{refl}
 use Rattle.rmc.specs.Rmc.{letters}
 use Rattle.rmc.proofs.Steps.{parts}
-use borrow.Author.Rules.{rules}
 use Rattle.rmc.proofs.letters_part.Goals as goal
 
 pub returns : goal.returns

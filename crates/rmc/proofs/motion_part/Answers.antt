@@ -2,7 +2,6 @@
 use mathlib.Core.Path.{refl}
 use Rattle.rmc.specs.Rmc.{motion}
 use Rattle.rmc.proofs.Steps.{parts}
-use borrow.Author.Rules.{rules}
 use Rattle.rmc.proofs.motion_part.Goals as goal
 
 pub returns-in_default : goal.returns-in_default

@@ -11,7 +11,6 @@ use Rattle.sentence.specs.declared.Record.{Record}
 use Rattle.sentence.specs.declared.ParseResult.{ParseResult}
 use Rattle.sentence.proofs.Told.{dispatched}
 use Rattle.sentence.proofs.Satellites.{alone-says, rmc-none, gsv-none, gga-none, gll-none, vtg-none}
-use borrow.Author.Rules.{rules}
 use Rattle.sentence.proofs.dispatch.Goals as goal
 
 -- the formatter `r` that the code found decides, for the sentence `p`

@@ -1,7 +1,6 @@
 -- `formatter_of` meets its contract: the first type that is the sentence's own decides. Assumes nothing.
 use mathlib.Core.Path.{sym, ◌∙◌}
 use Rattle.answer.specs.Sentence.{formatter_of}
-use borrow.Author.Rules.{rules}
 use Rattle.sentence.proofs.formatter_of.Goals as goal
 
 pub returns-then-same : goal.returns-then-same

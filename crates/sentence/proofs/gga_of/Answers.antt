@@ -1,12 +1,9 @@
 -- `gga_of` meets its contract: what the reader of the data says. Assumes nothing.
-use mathlib.Core.Path.{◌≡◌, refl}
-use Rattle.frame.specs.Answer.{talker_bytes, parts}
+use mathlib.Core.Path.{refl}
 use Rattle.gga.specs.Gga.{gga}
 use Rattle.gga.specs.Answer.{gga_read}
-use Rattle.gga.specs.declared.GgaRead.{GgaRead}
-use Rattle.answer.specs.Sentence.{or_refused, as_gga, gga_of}
+use Rattle.answer.specs.Sentence.{as_gga}
 use Rattle.sentence.proofs.Told.{data-says}
-use borrow.Author.Rules.{rules}
 use Rattle.sentence.proofs.gga_of.Goals as goal
 
 pub returns-in-Syntax : goal.returns-in-Syntax

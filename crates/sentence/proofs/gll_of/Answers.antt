@@ -1,12 +1,9 @@
 -- `gll_of` meets its contract: what the reader of the data says. Assumes nothing.
-use mathlib.Core.Path.{◌≡◌, refl}
-use Rattle.frame.specs.Answer.{talker_bytes, parts}
+use mathlib.Core.Path.{refl}
 use Rattle.gll.specs.Gll.{gll}
 use Rattle.gll.specs.Answer.{gll_read}
-use Rattle.gll.specs.declared.GllRead.{GllRead}
-use Rattle.answer.specs.Sentence.{or_refused, as_gll, gll_of}
+use Rattle.answer.specs.Sentence.{as_gll}
 use Rattle.sentence.proofs.Told.{data-says}
-use borrow.Author.Rules.{rules}
 use Rattle.sentence.proofs.gll_of.Goals as goal
 
 pub returns-in-Syntax : goal.returns-in-Syntax

@@ -1,16 +1,10 @@
 -- `gsa_of` meets its contract: what the reader of the data says, and the system that is settled. Assumes nothing.
-use mathlib.Core.Path.{◌≡◌, refl, ap, ◌∙◌}
+use mathlib.Core.Path.{refl, ap, ◌∙◌}
 use lib.ListN.{take}
-use Rattle.frame.specs.Answer.{talker_bytes, parts}
-use Rattle.gsa.specs.Answer.{said, settled, gsa_of as gsa_data}
-use Rattle.gsa.specs.declared.GsaAnswer.{GsaAnswer}
 use Rattle.gsa.specs.declared.GsaHead.{GsaHead}
-use Rattle.gsa.specs.declared.Settled.{Settled}
-use Rattle.answer.specs.Sentence.{is_gsa, or_refused, settled_gsa, as_gsa, gsa_of}
-use Rattle.sentence.specs.Answer.{gsa_sentence, Says}
-use Rattle.sentence.specs.declared.Record.TheVariants.{Gsa}
+use Rattle.answer.specs.Sentence.{is_gsa}
+use Rattle.sentence.specs.Answer.{gsa_sentence}
 use Rattle.sentence.proofs.Satellites.{alone-is, held, with-record, read-says, settled-says}
-use borrow.Author.Rules.{rules}
 use Rattle.sentence.proofs.gsa_of.Goals as goal
 
 pub returns-in-Syntax : goal.returns-in-Syntax

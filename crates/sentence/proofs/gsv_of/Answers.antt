@@ -1,15 +1,12 @@
 -- `gsv_of` meets its contract: the talker decides, then what the reader of the data says. Assumes nothing.
-use mathlib.Core.Path.{◌≡◌, refl, ap, sym, ◌∙◌}
+use mathlib.Core.Path.{refl, ap, sym, ◌∙◌}
 use mathlib.Core.Option.{Option}
 use Rattle.frame.specs.Answer.{parts}
 use Rattle.gsv.specs.Talker.{Talker}
 use Rattle.gsv.specs.Gsv.{gsv}
-use Rattle.gsv.specs.Answer.{talker, talker_read, gsv_read}
-use Rattle.gsv.specs.declared.GsvRead.{GsvRead}
-use Rattle.gsv.specs.declared.TalkerOf.{TalkerOf}
-use Rattle.answer.specs.Sentence.{or_refused, as_gsv, gsv_by, gsv_of}
+use Rattle.gsv.specs.Answer.{talker_read, gsv_read}
+use Rattle.answer.specs.Sentence.{as_gsv, gsv_by}
 use Rattle.sentence.proofs.Told.{data-says}
-use borrow.Author.Rules.{rules}
 use Rattle.sentence.proofs.gsv_of.Goals as goal
 
 pub returns-in_default : goal.returns-in_default

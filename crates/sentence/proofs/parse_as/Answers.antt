@@ -5,7 +5,6 @@ use Rattle.answer.specs.Sentence.{Answer, of_type, parse_as}
 use Rattle.sentence.specs.Answer.{Says}
 use Rattle.sentence.proofs.Told.{framed-refused, framed-is, framed-within, its-type, other-type}
 use Rattle.sentence.proofs.Satellites.{alone-is}
-use borrow.Author.Rules.{rules}
 use Rattle.sentence.proofs.parse_as.Goals as goal
 
 pub dispatch-requires : goal.dispatch-requires

@@ -4,7 +4,6 @@ use Rattle.answer.specs.Sentence.{Answer, dispatch, answer}
 use Rattle.sentence.specs.Answer.{Says}
 use Rattle.sentence.proofs.Told.{framed-refused, framed-is, framed-within}
 use Rattle.sentence.proofs.Satellites.{alone-says}
-use borrow.Author.Rules.{rules}
 use Rattle.sentence.proofs.parse_bytes.Goals as goal
 
 pub dispatch-requires : goal.dispatch-requires

@@ -1,12 +1,9 @@
 -- `rmc_of` meets its contract: what the reader of the data says. Assumes nothing.
-use mathlib.Core.Path.{◌≡◌, refl}
-use Rattle.frame.specs.Answer.{talker_bytes, parts}
+use mathlib.Core.Path.{refl}
 use Rattle.rmc.specs.Rmc.{rmc}
 use Rattle.rmc.specs.Answer.{rmc_read}
-use Rattle.rmc.specs.declared.RmcRead.{RmcRead}
-use Rattle.answer.specs.Sentence.{or_refused, as_rmc, rmc_of}
+use Rattle.answer.specs.Sentence.{as_rmc}
 use Rattle.sentence.proofs.Told.{data-says}
-use borrow.Author.Rules.{rules}
 use Rattle.sentence.proofs.rmc_of.Goals as goal
 
 pub returns-in-Syntax : goal.returns-in-Syntax

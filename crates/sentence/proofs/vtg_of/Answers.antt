@@ -1,12 +1,9 @@
 -- `vtg_of` meets its contract: what the reader of the data says. Assumes nothing.
-use mathlib.Core.Path.{◌≡◌, refl}
-use Rattle.frame.specs.Answer.{talker_bytes, parts}
+use mathlib.Core.Path.{refl}
 use Rattle.vtg.specs.Vtg.{vtg}
 use Rattle.vtg.specs.Answer.{vtg_read}
-use Rattle.vtg.specs.declared.VtgRead.{VtgRead}
-use Rattle.answer.specs.Sentence.{or_refused, as_vtg, vtg_of}
+use Rattle.answer.specs.Sentence.{as_vtg}
 use Rattle.sentence.proofs.Told.{data-says}
-use borrow.Author.Rules.{rules}
 use Rattle.sentence.proofs.vtg_of.Goals as goal
 
 pub returns-in-Syntax : goal.returns-in-Syntax

@@ -1,11 +1,7 @@
 -- `has` meets its contract: the letters passed are not the byte, so that it stands among all exactly where it stands among
 -- those left. The measure is what is left of the letters. Assumes nothing.
-use Prim.Native.Nat.{◌≤◌, ◌-◌}
 use native.Mathlib.Omega.{arith}
-use mathlib.Core.Path.{◌≡◌, refl, sym, ◌∙◌}
-use borrow.Author.Rules.{rules}
-use lib.ListN.{length, drop}
-use Rattle.text.specs.Reader.{among}
+use mathlib.Core.Path.{refl, sym, ◌∙◌}
 use Rattle.text.proofs.Letters.{among-here, among-later, among-none}
 use Rattle.text.proofs.has.Goals as goal
 

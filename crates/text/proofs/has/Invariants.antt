@@ -1,11 +1,8 @@
 -- What each turn of the loop keeps, and what falls.
 use Prim.Native.Nat.{◌≤◌, ◌-◌}
-use native.Mathlib.Omega.{arith}
-use mathlib.Core.Path.{◌≡◌, refl, sym, ◌∙◌}
-use borrow.Author.Rules.{rules}
+use mathlib.Core.Path.{◌≡◌}
 use lib.ListN.{length, drop}
 use Rattle.text.specs.Reader.{among}
-use Rattle.text.proofs.Letters.{among-here, among-later, among-none}
 use Rattle.text.proofs.has.Given as goal
 
 abbrev pub invariant-loop-i : goal.invariant-loop-i

@@ -1,10 +1,9 @@
 -- `number` meets its contract: the loop goes on from the digits that it has read, so that reading the whole text is
 -- reading what is left from `value`. The measure is what is left of the text. Assumes nothing.
-use Prim.Native.Nat.{◌+◌, ◌-◌, ◌*◌, ◌≤◌}
+use Prim.Native.Nat.{◌+◌, ◌*◌}
 use native.Mathlib.Omega.{arith}
 use mathlib.Core.Path.{refl, ◌≡◌, ap, ◌∙◌, sym}
-use lib.ListN.{length, drop}
-use borrow.Author.Rules.{rules}
+use lib.ListN.{drop}
 use Rattle.text.specs.Number.{number, number_from}
 use Rattle.text.proofs.Places.{a-read, no-read}
 use Rattle.text.proofs.Digits.{number-past, number-end, number-over, unit-first, unit-absent, unit-more, unit-stop}

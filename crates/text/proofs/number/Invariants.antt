@@ -1,12 +1,8 @@
 -- What each turn of the loop keeps, and what falls.
-use Prim.Native.Nat.{◌+◌, ◌-◌, ◌*◌, ◌≤◌}
-use native.Mathlib.Omega.{arith}
-use mathlib.Core.Path.{refl, ◌≡◌, ap, ◌∙◌, sym}
+use Prim.Native.Nat.{◌-◌, ◌≤◌}
+use mathlib.Core.Path.{◌≡◌}
 use lib.ListN.{length, drop}
-use borrow.Author.Rules.{rules}
 use Rattle.text.specs.Number.{number, number_from}
-use Rattle.text.proofs.Places.{a-read, no-read}
-use Rattle.text.proofs.Digits.{number-past, number-end, number-over, unit-first, unit-absent, unit-more, unit-stop}
 use Rattle.text.proofs.number.Given as goal
 
 abbrev pub invariant-loop-i : goal.invariant-loop-i

@@ -3,7 +3,6 @@ use native.Mathlib.Omega.{arith}
 use mathlib.Core.Path.{refl, sym, ◌∙◌}
 use Rattle.text.proofs.Places.{a-read, no-read}
 use Rattle.text.proofs.Letters.{among-past, among-got, among-miss}
-use borrow.Author.Rules.{rules}
 use Rattle.text.proofs.one_among.Goals as goal
 
 pub returns-then-s-at : goal.returns-then-s-at

@@ -3,7 +3,6 @@ use mathlib.Core.Path.{refl}
 use native.Mathlib.Omega.{arith}
 use Rattle.text.proofs.Places.{a-read, no-read}
 use Rattle.text.proofs.Letters.{letter-past, letter-first, letter-second, letter-none}
-use borrow.Author.Rules.{rules}
 use Rattle.text.proofs.one_of.Goals as goal
 
 pub returns-then-s-at : goal.returns-then-s-at

@@ -1,5 +1,4 @@
 -- `opt_number` meets its contract: what `number` reads is held, and where it does not match the place stays. Assumes nothing.
-use borrow.Author.Rules.{rules}
 use mathlib.Core.Path.{refl, ap}
 use Rattle.text.specs.Answer.{whole_at}
 use Rattle.text.proofs.Places.{opt-some, opt-none}

@@ -5,7 +5,6 @@ use native.Mathlib.Omega.{arith}
 use lib.ListN.{get_or}
 use Rattle.text.proofs.Places.{a-read, no-read}
 use Rattle.text.proofs.Fixed.{Lead, plus-leads, digit-leads, none-leads, fixed-short, three-lead, three-second, three-third, three-read, three-big}
-use borrow.Author.Rules.{rules}
 use Rattle.text.proofs.three.Goals as goal
 use Rattle.text.proofs.three.Goals.{then-hundreds-gt9+else-s-at-ne43, else-hundreds-gt9}
 

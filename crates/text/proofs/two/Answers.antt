@@ -6,7 +6,6 @@ use native.Mathlib.Omega.{arith}
 use lib.ListN.{get_or}
 use Rattle.text.proofs.Places.{a-read, no-read}
 use Rattle.text.proofs.Fixed.{Lead, plus-leads, digit-leads, none-leads, fixed-short, two-lead, two-later, two-read}
-use borrow.Author.Rules.{rules}
 use Rattle.text.proofs.two.Goals as goal
 use Rattle.text.proofs.two.Goals.{then-tens-gt9+else-s-at-ne43, else-tens-gt9}
 

@@ -1,6 +1,5 @@
 -- `unit` meets its contract, test by test. Assumes nothing.
 use borrow.Author.Tests.{lt-ltb, le-ltb}
-use borrow.Author.Rules.{rules}
 use Rattle.text.proofs.unit.Goals as goal
 
 pub returns-then-b-lt48 : goal.returns-then-b-lt48

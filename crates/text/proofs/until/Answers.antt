@@ -1,11 +1,6 @@
 -- `until` meets its contract: none of the bytes passed so far is the one that is looked for, so the first that is ends the text. Assumes nothing.
-use Prim.Native.Nat.{◌≤◌, ◌-◌, max}
 use native.Mathlib.Omega.{arith}
-use mathlib.Core.Path.{◌≡◌, refl, ◌∙◌}
-use borrow.Author.Rules.{rules}
-use lib.ListN.{length, drop}
-use lib.Seq.{slice}
-use Rattle.text.specs.Reader.{prepend, until}
+use mathlib.Core.Path.{refl, ◌∙◌}
 use Rattle.text.proofs.Places.{a-read, no-read}
 use Rattle.text.proofs.Parts.{until-start, until-stop, until-more, until-end}
 use Rattle.text.proofs.until.Goals as goal

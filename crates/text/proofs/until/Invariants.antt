@@ -1,13 +1,9 @@
 -- What each turn of the loop keeps, and what falls.
 use Prim.Native.Nat.{◌≤◌, ◌-◌, max}
-use native.Mathlib.Omega.{arith}
-use mathlib.Core.Path.{◌≡◌, refl, ◌∙◌}
-use borrow.Author.Rules.{rules}
+use mathlib.Core.Path.{◌≡◌}
 use lib.ListN.{length, drop}
 use lib.Seq.{slice}
 use Rattle.text.specs.Reader.{prepend, until}
-use Rattle.text.proofs.Places.{a-read, no-read}
-use Rattle.text.proofs.Parts.{until-start, until-stop, until-more, until-end}
 use Rattle.text.proofs.until.Given as goal
 
 abbrev pub invariant-loop-i : goal.invariant-loop-i

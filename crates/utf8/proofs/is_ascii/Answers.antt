@@ -1,13 +1,7 @@
 -- `utf8::is_ascii` meets its contract. The invariant: the text is ASCII exactly where the largest of the bytes passed is below 0x80 and
 -- what is left of the text is ASCII. Assumes nothing.
-use Prim.Native.Nat.{◌≤◌, ◌-◌}
 use native.Mathlib.Omega.{arith}
-use borrow.Author.Rules.{rules}
-use mathlib.Core.Path.{◌≡◌, refl, sym, ◌∙◌}
-use mathlib.Core.Bool.{◌&&◌}
-use lib.Dec.{ltb}
-use lib.ListN.{length, drop}
-use Rattle.utf8.specs.Utf8.{ascii}
+use mathlib.Core.Path.{refl, sym, ◌∙◌}
 use Rattle.utf8.proofs.Ascii.{one-octet, no-octet}
 use Rattle.utf8.proofs.is_ascii.Goals as goal
 

@@ -1,14 +1,8 @@
 -- `utf8::is_utf8` meets its contract. The invariant: the state after the whole text is the one after what is left of it, from the
 -- present state. Each turn takes one byte off what is left, and at the end nothing is left. Assumes nothing.
-use Prim.Native.Nat.{◌≤◌, ◌-◌}
 use native.Mathlib.Omega.{arith}
-use borrow.Author.Rules.{rules}
-use mathlib.Core.Path.{◌≡◌, refl, ap, sym, ◌∙◌}
-use mathlib.Core.List.{[]}
-use mathlib.Core.Option.{some}
-use lib.ListN.{length, drop}
-use Rattle.utf8.specs.Utf8.{after, may_end}
-use Rattle.utf8.specs.Answer.{pending}
+use mathlib.Core.Path.{refl, ap, sym, ◌∙◌}
+use Rattle.utf8.specs.Utf8.{may_end}
 use Rattle.utf8.proofs.Pieces.{one-more, no-more}
 use Rattle.utf8.proofs.is_utf8.Goals as goal
 

@@ -1,14 +1,11 @@
 -- What each turn of the loop keeps, and what falls.
 use Prim.Native.Nat.{◌≤◌, ◌-◌}
-use native.Mathlib.Omega.{arith}
-use borrow.Author.Rules.{rules}
-use mathlib.Core.Path.{◌≡◌, refl, ap, sym, ◌∙◌}
+use mathlib.Core.Path.{◌≡◌}
 use mathlib.Core.List.{[]}
 use mathlib.Core.Option.{some}
 use lib.ListN.{length, drop}
-use Rattle.utf8.specs.Utf8.{after, may_end}
+use Rattle.utf8.specs.Utf8.{after}
 use Rattle.utf8.specs.Answer.{pending}
-use Rattle.utf8.proofs.Pieces.{one-more, no-more}
 use Rattle.utf8.proofs.is_utf8.Given as goal
 
 abbrev pub invariant-loop-i : goal.invariant-loop-i

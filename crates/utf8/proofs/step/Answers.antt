@@ -1,7 +1,6 @@
 -- `utf8::step` meets its contract: in each arm the state is the variant that was matched, and the definition's step from that variant
 -- is what `lead` or `within` ensures. Assumes nothing.
 use Prim.Native.Nat.{ℕ}
-use borrow.Author.Rules.{rules}
 use mathlib.Core.Path.{◌≡◌, refl, ap, sym, ◌∙◌}
 use Rattle.utf8.specs.Utf8.{State, step}
 use Rattle.utf8.specs.Answer.{pending}

@@ -2,7 +2,6 @@
 use mathlib.Core.Path.{refl}
 use Rattle.vtg.specs.Vtg.{courses}
 use Rattle.vtg.proofs.Steps.{parts}
-use borrow.Author.Rules.{rules}
 use Rattle.vtg.proofs.courses_part.Goals as goal
 
 pub returns-in_default : goal.returns-in_default

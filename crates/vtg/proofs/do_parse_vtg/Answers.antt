@@ -3,7 +3,6 @@ use mathlib.Core.Path.{refl}
 use Rattle.text.proofs.Texts.{text-none, text-bad, text-some}
 use Rattle.vtg.specs.Vtg.{vtg}
 use Rattle.vtg.proofs.Steps.{parts}
-use borrow.Author.Rules.{rules}
 use Rattle.vtg.proofs.do_parse_vtg.Goals as goal
 
 pub returns-in-No : goal.returns-in-No

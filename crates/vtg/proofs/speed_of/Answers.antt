@@ -1,5 +1,4 @@
 -- `speed_of` meets its contract: by whether knots stand there, and then by whether kilometres an hour do. Assumes nothing.
-use borrow.Author.Rules.{rules}
 use Rattle.vtg.proofs.speed_of.Goals as goal
 
 pub returns-in-Is : goal.returns-in-Is

@@ -2,7 +2,6 @@
 use mathlib.Core.Path.{refl}
 use Rattle.vtg.specs.Vtg.{speed}
 use Rattle.vtg.proofs.Steps.{parts}
-use borrow.Author.Rules.{rules}
 use Rattle.vtg.proofs.speed_part.Goals as goal
 
 pub returns-in-No : goal.returns-in-No

@@ -1,7 +1,6 @@
 -- `days_in` meets its contract, test by test. Assumes nothing.
 use mathlib.Core.Path.{sym, ◌∙◌}
 use Rattle.fields.proofs.CalendarDays.{feb-leap, feb, short-month, long-month}
-use borrow.Author.Rules.{rules}
 use Rattle.fields.proofs.date.days_in.Goals as goal
 
 pub returns-then-is_leap : goal.returns-then-is_leap

@@ -1,6 +1,5 @@
 -- `full_year` meets its contract, test by test. Assumes nothing.
 use borrow.Author.Tests.{le-leb, lt-leb}
-use borrow.Author.Rules.{rules}
 use Rattle.fields.proofs.date.full_year.Goals as goal
 
 pub returns-then-year-ge83 : goal.returns-then-year-ge83

@@ -1,6 +1,5 @@
 -- `on_calendar` meets its contract, test by test. Assumes nothing.
 use Rattle.fields.proofs.CalendarDays.{no-month, late-month, no-day-zero, late-day, good-day}
-use borrow.Author.Rules.{rules}
 use Rattle.fields.proofs.date.on_calendar.Goals as goal
 
 pub returns-then-month-lt1 : goal.returns-then-month-lt1

@@ -2,7 +2,6 @@
 use mathlib.Core.Path.{refl, ap}
 use Rattle.text.proofs.Places.{opt-some, opt-none}
 use Rattle.fields.specs.Answer.{date_read}
-use borrow.Author.Rules.{rules}
 use Rattle.fields.proofs.date.opt_date.Goals as goal
 
 pub returns-in-No : goal.returns-in-No

@@ -6,7 +6,6 @@ use Rattle.text.proofs.Places.{took}
 use Rattle.text.proofs.Fixed.{fixed-limit}
 use Rattle.fields.specs.Date.{date, date_of}
 use Rattle.fields.proofs.Steps.{steps}
-use borrow.Author.Rules.{rules}
 use Rattle.fields.proofs.date.parse_date.Goals as goal
 
 pub returns-in_default : goal.returns-in_default

@@ -3,7 +3,6 @@ use mathlib.Core.Path.{refl, ap}
 use Rattle.text.specs.Answer.{next}
 use Rattle.text.proofs.Places.{go, done, opt-some, opt-none}
 use Rattle.fields.specs.Letter.{unit_letter}
-use borrow.Author.Rules.{rules}
 use Rattle.fields.proofs.letter.unit_letter.Goals as goal
 
 pub returns-in-No : goal.returns-in-No

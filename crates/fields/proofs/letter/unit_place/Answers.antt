@@ -2,7 +2,6 @@
 use mathlib.Core.Path.{refl}
 use Rattle.fields.specs.Letter.{unit_place}
 use Rattle.fields.proofs.Steps.{go-unit}
-use borrow.Author.Rules.{rules}
 use Rattle.fields.proofs.letter.unit_place.Goals as goal
 
 pub returns : goal.returns

@@ -2,7 +2,6 @@
 use mathlib.Core.Path.{refl}
 use Rattle.fields.specs.Place.{with_comma}
 use Rattle.fields.proofs.Steps.{commas}
-use borrow.Author.Rules.{rules}
 use Rattle.fields.proofs.place.time_place.Goals as goal
 
 pub returns-in_default : goal.returns-in_default

@@ -2,7 +2,6 @@
 use mathlib.Core.Path.{refl}
 use Rattle.fields.proofs.Steps.{steps}
 use Rattle.fields.specs.Position.{commas}
-use borrow.Author.Rules.{rules}
 use Rattle.fields.proofs.position.commas.Goals as goal
 
 pub returns-in_default : goal.returns-in_default

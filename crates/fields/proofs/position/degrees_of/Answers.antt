@@ -1,6 +1,5 @@
 -- `degrees_of` meets its contract: the operations are those of the definition. Assumes nothing.
 use lib.Ieee.{of_bits, of_int}
-use borrow.Author.Rules.{rules}
 use Rattle.fields.proofs.position.degrees_of.Goals as goal
 
 pub returns-then-minus : goal.returns-then-minus

@@ -2,7 +2,6 @@
 use mathlib.Core.Path.{refl}
 use Rattle.fields.proofs.Steps.{steps}
 use Rattle.fields.specs.Position.{do_lat_lon}
-use borrow.Author.Rules.{rules}
 use Rattle.fields.proofs.position.do_parse_lat_lon.Goals as goal
 
 pub returns-in_default : goal.returns-in_default

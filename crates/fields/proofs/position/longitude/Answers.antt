@@ -6,7 +6,6 @@ use Rattle.text.proofs.Places.{took}
 use Rattle.text.proofs.Fixed.{fixed-limit}
 use Rattle.fields.specs.Position.{longitude}
 use Rattle.fields.proofs.Steps.{steps}
-use borrow.Author.Rules.{rules}
 use Rattle.fields.proofs.position.longitude.Goals as goal
 
 pub returns-in_default : goal.returns-in_default

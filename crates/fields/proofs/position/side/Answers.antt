@@ -3,7 +3,6 @@ use mathlib.Core.Path.{refl}
 use Rattle.fields.proofs.Steps.{steps}
 use Rattle.decimal.proofs.Facts.{long-held}
 use Rattle.fields.specs.Position.{side}
-use borrow.Author.Rules.{rules}
 use Rattle.fields.proofs.position.side.Goals as goal
 
 pub returns-in_default : goal.returns-in_default

@@ -4,7 +4,6 @@ use native.Mathlib.Omega.{arith}
 use mathlib.Core.Path.{refl}
 use Rattle.text.proofs.Places.{a-read, no-read, bad-read}
 use Rattle.fields.proofs.Clock.{whole-second, rest-second, late-hour, late-minute, late-second, bad-time, in-time}
-use borrow.Author.Rules.{rules}
 use Rattle.fields.proofs.time.on_clock.Goals as goal
 
 pub returns-then-hour-ge24 : goal.returns-then-hour-ge24

@@ -2,7 +2,6 @@
 use mathlib.Core.Path.{refl, ap}
 use Rattle.text.proofs.Places.{opt-some, opt-none, opt-bad}
 use Rattle.fields.specs.Answer.{time_read}
-use borrow.Author.Rules.{rules}
 use Rattle.fields.proofs.time.opt_hms.Goals as goal
 
 pub returns-in-No : goal.returns-in-No

@@ -3,7 +3,6 @@ use mathlib.Core.Path.{refl}
 use Rattle.decimal.proofs.Facts.{long-held}
 use Rattle.fields.specs.Time.{hms}
 use Rattle.fields.proofs.Steps.{steps}
-use borrow.Author.Rules.{rules}
 use Rattle.fields.proofs.time.parse_hms.Goals as goal
 
 pub returns-in_default : goal.returns-in_default

@@ -3,7 +3,6 @@ use mathlib.Core.Path.{refl}
 use Rattle.fields.proofs.Steps.{steps}
 use Rattle.decimal.proofs.Facts.{short-held}
 use Rattle.fields.specs.Variation.{do_variation}
-use borrow.Author.Rules.{rules}
 use Rattle.fields.proofs.variation.do_parse_magnetic_variation.Goals as goal
 
 pub returns-in_default : goal.returns-in_default

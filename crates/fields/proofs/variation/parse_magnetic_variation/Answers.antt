@@ -3,7 +3,6 @@ use mathlib.Core.Path.{refl}
 use Rattle.fields.proofs.Steps.{steps}
 use Rattle.text.proofs.Places.{alt-first, alt-second}
 use Rattle.fields.specs.Variation.{variation}
-use borrow.Author.Rules.{rules}
 use Rattle.fields.proofs.variation.parse_magnetic_variation.Goals as goal
 
 pub returns-in-At : goal.returns-in-At

@@ -1,7 +1,6 @@
 -- A line that is ASCII goes by its length and its parts; any other by whether it is valid UTF-8. Assumes nothing.
 use mathlib.Core.Path.{refl, sym, ◌∙◌}
 use Rattle.frame.proofs.Judged.{frame-ascii, frame-high, frame-bad}
-use borrow.Author.Rules.{rules}
 use Rattle.frame.proofs.parse.checked.Goals as goal
 
 pub returns-then-is_ascii : goal.returns-then-is_ascii

@@ -1,6 +1,5 @@
 -- The checksum calculated is that of the bytes from 1 up to the end of the data, and one test decides. Assumes nothing.
 use mathlib.Core.Path.{refl}
-use borrow.Author.Rules.{rules}
 use Rattle.frame.specs.Answer.{parts}
 use Rattle.frame.proofs.Judged.{sums-equal, sums-differ}
 use Rattle.frame.proofs.parse.compared.Goals as goal

@@ -8,7 +8,6 @@ use borrow.Author.Tests.{le-leb}
 use Rattle.frame.specs.Frame.{data_in}
 use Rattle.frame.specs.Answer.{parts, framed}
 use Rattle.frame.proofs.Within.{within}
-use borrow.Author.Rules.{rules}
 use Rattle.frame.proofs.parse.data_of.Goals as goal
 
 pub returns-in_default : goal.returns-in_default

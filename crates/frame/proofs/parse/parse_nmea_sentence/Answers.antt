@@ -1,6 +1,5 @@
 -- What the quick way tells is the frame, and so is what the checks answer. Assumes nothing.
 use mathlib.Core.Path.{refl, subst}
-use borrow.Author.Rules.{rules}
 use Rattle.frame.specs.Code.{Sure}
 use Rattle.frame.proofs.parse.parse_nmea_sentence.Goals as goal
 

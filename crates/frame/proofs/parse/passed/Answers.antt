@@ -1,12 +1,10 @@
 -- A line that ends with its checksum, has no `*` before that and is ASCII is a sentence, and its checksum decides; of any other nothing is
 -- told. Assumes nothing.
-use Prim.Native.Nat.{ℕ, ◌-◌}
+use Prim.Native.Nat.{◌-◌}
 use native.Mathlib.Omega.{arith}
 use mathlib.Core.Path.{◌≡◌, refl, sym, ◌∙◌}
-use mathlib.Core.List.{List}
 use lib.ListN.{length}
 use lib.Seq.{slice}
-use borrow.Author.Rules.{rules}
 use Rattle.frame.specs.Checksum.{checksum}
 use Rattle.frame.specs.Frame.{compared, frame}
 use Rattle.frame.specs.Answer.{letters}
@@ -25,7 +23,7 @@ returns-then-x-found c =
     } in
     let pass = c.one_pass-x.ensures in
     let decided : frame line ≡ compared (checksum (slice 1 (length line - 3) line)) (parts-in line enclosed) =
-      enclosed-frame line enclosed (sym pass.1 ∙ c.if-x-ne0.false) c.if-x-gt127.false pass.2 in
+    enclosed-frame line enclosed (sym pass.1 ∙ c.if-x-ne0.false) c.if-x-gt127.false pass.2 in
     (rw c.new.ensures (sums-equal (parts-in line enclosed) pass.0 c.if-x-found.true ∙ sym decided), refl)
 
 pub returns : goal.returns
@@ -39,5 +37,5 @@ returns c =
     } in
     let pass = c.one_pass-x.ensures in
     let decided : frame line ≡ compared (checksum (slice 1 (length line - 3) line)) (parts-in line enclosed) =
-      enclosed-frame line enclosed (sym pass.1 ∙ c.if-x-ne0.false) c.if-x-gt127.false pass.2 in
+    enclosed-frame line enclosed (sym pass.1 ∙ c.if-x-ne0.false) c.if-x-gt127.false pass.2 in
     (sums-differ (parts-in line enclosed) pass.0 c.if-x-found.false ∙ sym decided, refl)

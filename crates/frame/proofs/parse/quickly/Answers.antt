@@ -2,8 +2,6 @@
 -- is told. Assumes nothing.
 use native.Mathlib.Omega.{arith}
 use mathlib.Core.Path.{refl, sym, ◌∙◌}
-use borrow.Author.Rules.{rules}
-use borrow.Author.Tests.{not-false}
 use Rattle.frame.proofs.Quick.{unknown-frame}
 use Rattle.frame.proofs.parse.quickly.Goals as goal
 

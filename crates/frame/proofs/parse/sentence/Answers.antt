@@ -5,7 +5,6 @@ use Rattle.frame.specs.Frame.{data_from, sentence}
 use Rattle.text.specs.Answer.{part}
 use Rattle.text.proofs.Places.{took}
 use Rattle.frame.proofs.Steps.{steps, stop-field, go-char, go-two, go-three, go-part, go-field, done-sentence}
-use borrow.Author.Rules.{rules}
 use Rattle.frame.proofs.parse.sentence.Goals as goal
 
 pub returns-in_default : goal.returns-in_default

@@ -3,7 +3,6 @@ use native.Mathlib.Omega.{arith}
 use mathlib.Core.Path.{refl, sym, ◌∙◌}
 use Rattle.text.proofs.Places.{a-read, no-read, bad-read}
 use Rattle.frame.proofs.Fields.{short-type, known-type, unknown-type}
-use borrow.Author.Rules.{rules}
 use Rattle.frame.proofs.parse.sentence_type.Goals as goal
 
 pub returns-then-s-lt3 : goal.returns-then-s-lt3

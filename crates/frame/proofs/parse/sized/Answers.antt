@@ -3,7 +3,6 @@ use mathlib.Core.Path.{refl, sym, ◌∙◌, ap}
 use Rattle.text.proofs.Places.{missed, barred, took}
 use Rattle.frame.specs.Answer.{read}
 use Rattle.frame.proofs.Judged.{sized-long, sized-miss, sized-refuse, sized-got}
-use borrow.Author.Rules.{rules}
 use Rattle.frame.proofs.parse.sized.Goals as goal
 
 pub returns-then-n-gt-MAX_LEN : goal.returns-then-n-gt-MAX_LEN

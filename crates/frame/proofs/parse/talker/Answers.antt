@@ -4,7 +4,6 @@ use mathlib.Core.Path.{refl, ap, ◌∙◌}
 use Rattle.text.proofs.Places.{a-read, no-read}
 use Rattle.frame.specs.Frame.{taken}
 use Rattle.frame.proofs.Taken.{next-two, two-of, taken-short}
-use borrow.Author.Rules.{rules}
 use Rattle.frame.proofs.parse.talker.Goals as goal
 
 pub returns-then-s-lt2 : goal.returns-then-s-lt2

@@ -1,17 +1,10 @@
 -- The invariant has one part for each of the three: what the whole comes to is what the bytes that are left come to, from what was found
 -- so far. Assumes nothing.
-use Prim.Native.Nat.{◌≤◌, ◌-◌, max}
+use Prim.Native.Nat.{max}
 use native.Mathlib.Omega.{arith}
 use mathlib.Core.Path.{◌≡◌, refl, sym, ◌∙◌}
-use mathlib.Core.Bool.{◌&&◌}
-use borrow.Author.Rules.{rules}
-use lib.Dec.{ltb}
-use lib.ListN.{drop, get_or}
-use lib.Seq.{slice}
-use Rattle.utf8.specs.Utf8.{ascii}
+use lib.ListN.{get_or}
 use Rattle.utf8.proofs.Ascii.{one-octet}
-use Rattle.frame.specs.Checksum.{checksum, checksum_from}
-use Rattle.frame.specs.Code.{marked}
 use Rattle.frame.proofs.Sums.{sum-here, sum-end}
 use Rattle.frame.proofs.Stars.{one-marked, all-marked}
 use Rattle.frame.proofs.pass.one_pass.Goals as goal

@@ -1,18 +1,13 @@
 -- What each turn of the loop keeps, and what falls.
-use Prim.Native.Nat.{◌≤◌, ◌-◌, max}
-use native.Mathlib.Omega.{arith}
-use mathlib.Core.Path.{◌≡◌, refl, sym, ◌∙◌}
+use Prim.Native.Nat.{◌≤◌, ◌-◌}
+use mathlib.Core.Path.{◌≡◌}
 use mathlib.Core.Bool.{◌&&◌}
-use borrow.Author.Rules.{rules}
 use lib.Dec.{ltb}
-use lib.ListN.{drop, get_or}
+use lib.ListN.{drop}
 use lib.Seq.{slice}
 use Rattle.utf8.specs.Utf8.{ascii}
-use Rattle.utf8.proofs.Ascii.{one-octet}
 use Rattle.frame.specs.Checksum.{checksum, checksum_from}
 use Rattle.frame.specs.Code.{marked}
-use Rattle.frame.proofs.Sums.{sum-here, sum-end}
-use Rattle.frame.proofs.Stars.{one-marked, all-marked}
 use Rattle.frame.proofs.pass.one_pass.Given as goal
 
 abbrev pub invariant-loop-i : goal.invariant-loop-i

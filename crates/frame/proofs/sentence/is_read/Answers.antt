@@ -1,7 +1,6 @@
 -- `is_read` meets its contract: a type that is one of the six is in the list. Assumes nothing.
 use mathlib.Core.Path.{◌≡◌, refl, sym, ◌∙◌}
 use mathlib.Core.Bool.{true}
-use borrow.Author.Rules.{rules}
 use Rattle.text.specs.Bytes.{bytes}
 use Rattle.frame.specs.Types.{types, alike, listed}
 use Rattle.frame.proofs.Texts.{as-one}

@@ -1,12 +1,8 @@
 -- The table of the code is the list of the definition. The invariant: the type is in the list exactly where it is in what is left
 -- of the part that begins with its letter, since no type passed is alike. The types that are tried first are in the list.
 -- Assumes nothing.
-use Prim.Native.Nat.{◌≤◌, ◌-◌}
-use mathlib.Core.Path.{◌≡◌, refl, sym, ◌∙◌}
-use lib.Seq.{slice}
-use borrow.Author.Rules.{rules}
-use Rattle.frame.specs.Types.{types, listed}
-use Rattle.frame.specs.Answer.{letters}
+use mathlib.Core.Path.{refl, sym, ◌∙◌}
+use Rattle.frame.specs.Types.{types}
 use Rattle.frame.proofs.Texts.{found, not-here, nowhere}
 use Rattle.frame.proofs.sentence.known.Goals as goal
 

@@ -1,11 +1,9 @@
 -- What each turn of the loop keeps, and what falls.
 use Prim.Native.Nat.{◌≤◌, ◌-◌}
-use mathlib.Core.Path.{◌≡◌, refl, sym, ◌∙◌}
+use mathlib.Core.Path.{◌≡◌}
 use lib.Seq.{slice}
-use borrow.Author.Rules.{rules}
 use Rattle.frame.specs.Types.{types, listed}
 use Rattle.frame.specs.Answer.{letters}
-use Rattle.frame.proofs.Texts.{found, not-here, nowhere}
 use Rattle.frame.proofs.sentence.known.Given as goal
 
 abbrev pub invariant-loop-i : goal.invariant-loop-i

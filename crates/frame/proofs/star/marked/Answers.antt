@@ -1,10 +1,6 @@
 -- The invariant: the flag after the whole part is the one after what is left of it, from the one so far. Assumes nothing.
-use Prim.Native.Nat.{◌-◌}
 use native.Mathlib.Omega.{arith}
-use mathlib.Core.Path.{◌≡◌, refl, sym, ◌∙◌}
-use borrow.Author.Rules.{rules}
-use lib.Seq.{slice}
-use Rattle.frame.specs.Code.{marked}
+use mathlib.Core.Path.{refl, sym, ◌∙◌}
 use Rattle.frame.proofs.Stars.{one-marked, all-marked}
 use Rattle.frame.proofs.star.marked.Goals as goal
 

@@ -3,7 +3,6 @@ use Prim.Native.Nat.{◌-◌}
 use native.Mathlib.Omega.{arith}
 use mathlib.Core.Path.{refl, sym, ◌∙◌}
 use lib.ListN.{length}
-use borrow.Author.Rules.{rules}
 use Rattle.text.proofs.Places.{a-read}
 use Rattle.frame.proofs.Stars.{ends-there}
 use Rattle.frame.proofs.star.star.Goals as goal

@@ -1,10 +1,6 @@
 -- The invariant: the checksum of the whole part is that of what is left of it, from the one so far. Assumes nothing.
-use Prim.Native.Nat.{◌-◌}
 use native.Mathlib.Omega.{arith}
-use mathlib.Core.Path.{◌≡◌, refl, sym, ◌∙◌}
-use borrow.Author.Rules.{rules}
-use lib.Seq.{slice}
-use Rattle.frame.specs.Checksum.{checksum, checksum_from}
+use mathlib.Core.Path.{refl, sym, ◌∙◌}
 use Rattle.frame.proofs.Sums.{sum-here, sum-end}
 use Rattle.frame.proofs.sum.checksum.Goals as goal
 

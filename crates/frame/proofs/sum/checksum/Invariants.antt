@@ -1,11 +1,8 @@
 -- What each turn of the loop keeps, and what falls.
 use Prim.Native.Nat.{◌-◌}
-use native.Mathlib.Omega.{arith}
-use mathlib.Core.Path.{◌≡◌, refl, sym, ◌∙◌}
-use borrow.Author.Rules.{rules}
+use mathlib.Core.Path.{◌≡◌}
 use lib.Seq.{slice}
 use Rattle.frame.specs.Checksum.{checksum, checksum_from}
-use Rattle.frame.proofs.Sums.{sum-here, sum-end}
 use Rattle.frame.proofs.sum.checksum.Given as goal
 
 abbrev pub invariant-loop-i : goal.invariant-loop-i

@@ -3,7 +3,6 @@ use native.Mathlib.Omega.{arith}
 use mathlib.Core.Path.{refl}
 use Rattle.text.proofs.Places.{a-read, no-read}
 use Rattle.frame.proofs.Fields.{short-field, other-field, lead-field, later-field, got-field}
-use borrow.Author.Rules.{rules}
 use Rattle.frame.proofs.sum.checksum_field.Goals as goal
 
 pub returns-then-s-lt3 : goal.returns-then-s-lt3

@@ -1,5 +1,4 @@
 -- `+` counts nothing, and any other byte what it counts as a digit. Assumes nothing.
-use borrow.Author.Rules.{rules}
 use Rattle.frame.proofs.Units.{lead-plus, lead-other}
 use Rattle.frame.proofs.sum.lead_unit.Goals as goal
 

@@ -3,7 +3,6 @@ use native.Mathlib.Omega.{arith}
 use mathlib.Core.Path.{ap, sym}
 use Rattle.frame.specs.Code.{or_sixteen}
 use Rattle.frame.proofs.Units.{decimal, upper, lower, none-below, none-between, none-between-cases, none-above}
-use borrow.Author.Rules.{rules}
 use Rattle.frame.proofs.sum.unit.Goals as goal
 
 pub returns-in-48-to-57 : goal.returns-in-48-to-57

@@ -9,7 +9,6 @@ use Rattle.fields.specs.Answer.{time_held, position_held}
 use Rattle.words.specs.Part.{option_words, time_words, position_words}
 use Rattle.text.proofs.Stores.{four}
 use Rattle.words.proofs.Lengths.{time-five, position-nine}
-use borrow.Author.Rules.{rules}
 use Rattle.words.proofs.gga_words.put_fix.Goals as goal
 
 pub put_option-requires : goal.put_option-requires

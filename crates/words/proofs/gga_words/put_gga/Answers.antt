@@ -10,7 +10,6 @@ use Rattle.words.specs.Answer.{gga_sentence}
 use Rattle.text.proofs.Stores.{four}
 use Rattle.words.proofs.Stores.{whole, no-room}
 use Rattle.words.proofs.Lengths.{gga-fix-seventeen, height-fifteen, gga-forty}
-use borrow.Author.Rules.{rules}
 use Rattle.words.proofs.gga_words.put_gga.Goals as goal
 
 pub returns-then-out-lt-WORDS : goal.returns-then-out-lt-WORDS

@@ -5,7 +5,6 @@ use Rattle.fields.specs.Answer.{short_held}
 use Rattle.words.specs.Part.{short_words}
 use Rattle.text.proofs.Stores.{three}
 use Rattle.words.proofs.Lengths.{short-five}
-use borrow.Author.Rules.{rules}
 use Rattle.words.proofs.gga_words.put_height.Goals as goal
 
 pub returns : goal.returns

@@ -7,7 +7,6 @@ use Rattle.fields.specs.Answer.{time_held, position_held}
 use Rattle.words.specs.Part.{time_words, position_words}
 use Rattle.text.proofs.Stores.{three}
 use Rattle.words.proofs.Lengths.{time-five, position-nine}
-use borrow.Author.Rules.{rules}
 use Rattle.words.proofs.gll_words.put_fields.Goals as goal
 
 pub returns : goal.returns

@@ -10,7 +10,6 @@ use Rattle.words.specs.Answer.{gll_sentence}
 use Rattle.text.proofs.Stores.{three}
 use Rattle.words.proofs.Stores.{whole, no-room}
 use Rattle.words.proofs.Lengths.{fields-sixteen, gll-forty}
-use borrow.Author.Rules.{rules}
 use Rattle.words.proofs.gll_words.put_gll.Goals as goal
 
 pub returns-then-out-lt-WORDS : goal.returns-then-out-lt-WORDS

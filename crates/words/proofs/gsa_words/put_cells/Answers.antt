@@ -1,5 +1,5 @@
 -- `put_cells` meets its contract. The loop's invariant: the first `i` cells stand in their places. Assumes nothing.
-use Prim.Native.Nat.{ℕ, ◌+◌, ◌-◌, ◌≤◌}
+use Prim.Native.Nat.{ℕ, ◌+◌, ◌≤◌}
 use native.Mathlib.Numerals.{add-one}
 use native.Mathlib.Omega.{arith}
 use mathlib.Core.Path.{◌≡◌, refl, ap, sym, ◌∙◌}
@@ -9,7 +9,7 @@ use lib.Seq.{sets, take-suc, take_all, length-take-le}
 use Rattle.words.specs.Part.{padded}
 use Rattle.text.proofs.Stores.{behind}
 use Rattle.words.proofs.Lengths.{padded-all}
-use borrow.Author.Rules.{rules, elem_Fits}
+use borrow.Author.Rules.{elem_Fits}
 use mir.Syntax.{w32, w64}
 use Rattle.words.proofs.gsa_words.put_cells.Goals as goal
 

@@ -7,7 +7,6 @@ use lib.Seq.{sets}
 use Rattle.gsa.specs.Answer.{dops_of}
 use Rattle.words.specs.Part.{dops_words}
 use Rattle.text.proofs.Stores.{behind}
-use borrow.Author.Rules.{rules}
 use Rattle.words.proofs.gsa_words.put_fields.Goals as goal
 
 pub bounds-out-4 : goal.bounds-out-4

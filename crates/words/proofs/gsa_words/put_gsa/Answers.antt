@@ -12,7 +12,6 @@ use Rattle.words.specs.Answer.{gsa_row}
 use Rattle.text.proofs.Stores.{five}
 use Rattle.words.proofs.Stores.{whole, no-room}
 use Rattle.words.proofs.Lengths.{padded-long, dops-thirteen, gsa-forty}
-use borrow.Author.Rules.{rules}
 use Rattle.words.proofs.gsa_words.put_gsa.Goals as goal
 
 pub returns-then-out-lt-WORDS : goal.returns-then-out-lt-WORDS

@@ -5,7 +5,6 @@ use Rattle.gsv.specs.Answer.{slot}
 use Rattle.words.specs.Gsv.{entry_words}
 use Rattle.text.proofs.Stores.{four}
 use Rattle.words.proofs.Lengths.{entry-eight}
-use borrow.Author.Rules.{rules}
 use Rattle.words.proofs.gsv_words.put_entries.Goals as goal
 
 pub returns : goal.returns

@@ -11,7 +11,6 @@ use Rattle.words.specs.Gsv.{entry_words}
 use Rattle.text.proofs.Stores.{four}
 use Rattle.words.proofs.Stores.{as-told, told}
 use Rattle.words.proofs.Lengths.{option-two}
-use borrow.Author.Rules.{rules}
 use Rattle.words.proofs.gsv_words.put_entry.Goals as goal
 
 pub returns-in-Empty : goal.returns-in-Empty

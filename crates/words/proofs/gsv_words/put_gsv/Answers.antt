@@ -12,7 +12,6 @@ use Rattle.words.specs.Gsv.{entries_words, gsv_words}
 use Rattle.text.proofs.Stores.{four}
 use Rattle.words.proofs.Stores.{whole, no-room}
 use Rattle.words.proofs.Lengths.{entries-all, gsv-forty}
-use borrow.Author.Rules.{rules}
 use Rattle.words.proofs.gsv_words.put_gsv.Goals as goal
 
 pub returns-then-out-lt-WORDS : goal.returns-then-out-lt-WORDS

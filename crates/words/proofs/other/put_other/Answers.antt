@@ -9,7 +9,6 @@ use Rattle.words.specs.Answer.{other_sentence}
 use Rattle.text.proofs.Stores.{three}
 use Rattle.words.proofs.Stores.{whole, no-room}
 use Rattle.words.proofs.Lengths.{other-forty}
-use borrow.Author.Rules.{rules}
 use Rattle.words.proofs.other.put_other.Goals as goal
 
 pub returns-then-out-lt-WORDS : goal.returns-then-out-lt-WORDS

@@ -3,7 +3,6 @@ use Rattle.fields.specs.Answer.{date_held}
 use Rattle.fields.specs.declared.date.DateHeld.{DateHeld}
 use Rattle.words.specs.Part.{date_words}
 use Rattle.words.proofs.Stores.{as-told}
-use borrow.Author.Rules.{rules}
 use Rattle.words.proofs.part.put_date.Goals as goal
 
 pub returns-in-Absent : goal.returns-in-Absent

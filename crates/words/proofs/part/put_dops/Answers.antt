@@ -10,7 +10,6 @@ use Rattle.gsa.specs.declared.Dops.{Dops}
 use Rattle.words.specs.Part.{dop_words, dops_words}
 use Rattle.text.proofs.Stores.{four}
 use Rattle.words.proofs.Stores.{as-told, told}
-use borrow.Author.Rules.{rules}
 use Rattle.words.proofs.part.put_dops.Goals as goal
 
 pub put_dop-requires : goal.put_dop-requires

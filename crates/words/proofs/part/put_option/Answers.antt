@@ -3,7 +3,6 @@ use Rattle.text.specs.Answer.{held}
 use Rattle.text.specs.declared.Held.{Held}
 use Rattle.words.specs.Part.{option_words}
 use Rattle.words.proofs.Stores.{as-told}
-use borrow.Author.Rules.{rules}
 use Rattle.words.proofs.part.put_option.Goals as goal
 
 pub returns-in-Absent : goal.returns-in-Absent

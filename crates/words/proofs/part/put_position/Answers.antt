@@ -9,7 +9,6 @@ use Rattle.fields.specs.declared.position.PositionHeld.{PositionHeld}
 use Rattle.words.specs.Part.{coordinate_words, position_words}
 use Rattle.text.proofs.Stores.{behind}
 use Rattle.words.proofs.Stores.{as-told, told}
-use borrow.Author.Rules.{rules}
 use Rattle.words.proofs.part.put_position.Goals as goal
 
 pub put_coordinate-requires : goal.put_coordinate-requires

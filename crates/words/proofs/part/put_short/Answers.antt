@@ -10,7 +10,6 @@ use Rattle.fields.specs.declared.place.ShortHeld.{ShortHeld}
 use Rattle.words.specs.Part.{dop_words, short_words}
 use Rattle.text.proofs.Stores.{behind}
 use Rattle.words.proofs.Stores.{as-told, told}
-use borrow.Author.Rules.{rules}
 use Rattle.words.proofs.part.put_short.Goals as goal
 
 pub put_dop-requires : goal.put_dop-requires

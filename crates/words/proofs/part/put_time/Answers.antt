@@ -9,7 +9,6 @@ use Rattle.fields.specs.declared.time.TimeHeld.{TimeHeld}
 use Rattle.words.specs.Part.{time_words}
 use Rattle.text.proofs.Stores.{behind}
 use Rattle.words.proofs.Stores.{as-told, told}
-use borrow.Author.Rules.{rules}
 use Rattle.words.proofs.part.put_time.Goals as goal
 
 pub put_four-requires : goal.put_four-requires

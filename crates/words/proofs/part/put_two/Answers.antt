@@ -4,7 +4,6 @@ use native.Mathlib.Omega.{arith}
 use mathlib.Core.Path.{refl}
 use mathlib.Core.List.{[], ◌∷◌}
 use lib.ListN.{set, length-set}
-use borrow.Author.Rules.{rules}
 use Rattle.text.proofs.Stores.{behind}
 use Rattle.words.proofs.part.put_two.Goals as goal
 

@@ -3,7 +3,6 @@ use Prim.Native.Nat.{◌+◌}
 use mathlib.Core.Path.{refl}
 use mathlib.Core.List.{[], ◌∷◌}
 use Rattle.text.proofs.Stores.{behind}
-use borrow.Author.Rules.{rules}
 use Rattle.words.proofs.part.put_type.Goals as goal
 
 pub returns : goal.returns

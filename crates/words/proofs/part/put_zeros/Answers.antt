@@ -1,8 +1,8 @@
 -- `put_zeros` meets its contract. The loop's invariant: the first `i` words from `at` on are 0. Assumes nothing.
-use Prim.Native.Nat.{ℕ, ◌-◌, ◌≤◌}
+use Prim.Native.Nat.{ℕ}
 use native.Mathlib.Omega.{arith}
 use mathlib.Core.Path.{◌≡◌, refl, ap, ◌∙◌}
-use lib.ListN.{length, length-set}
+use lib.ListN.{length-set}
 use lib.Seq.{sets}
 use Rattle.words.specs.Part.{zeros}
 use Rattle.words.proofs.Stores.{one-zero}

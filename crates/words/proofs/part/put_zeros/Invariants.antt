@@ -1,11 +1,9 @@
 -- What each turn of the loop keeps, and what falls.
-use Prim.Native.Nat.{ℕ, ◌-◌, ◌≤◌}
-use native.Mathlib.Omega.{arith}
-use mathlib.Core.Path.{◌≡◌, refl, ap, ◌∙◌}
-use lib.ListN.{length, length-set}
+use Prim.Native.Nat.{◌-◌, ◌≤◌}
+use mathlib.Core.Path.{◌≡◌}
+use lib.ListN.{length}
 use lib.Seq.{sets}
 use Rattle.words.specs.Part.{zeros}
-use Rattle.words.proofs.Stores.{one-zero}
 use Rattle.words.proofs.part.put_zeros.Given as goal
 
 abbrev pub invariant-loop-i : goal.invariant-loop-i

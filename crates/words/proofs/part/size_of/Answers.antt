@@ -1,6 +1,5 @@
 -- `size_of` meets its contract: a number below zero is one more than what its complement has. Assumes nothing.
 use Rattle.words.proofs.Signs.{up-fits, flip-fits, flip-cast, size-fits, kept-cast, size-is}
-use borrow.Author.Rules.{rules}
 use Rattle.words.proofs.part.size_of.Goals as goal
 
 pub overflow_add-m : goal.overflow_add-m

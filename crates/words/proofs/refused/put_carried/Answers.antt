@@ -6,7 +6,6 @@ use Rattle.frame.specs.declared.refusal.Refusal.{Refusal}
 use Rattle.words.specs.Part.{zeros}
 use Rattle.words.specs.Refused.{carried_words}
 use Rattle.words.proofs.Stores.{as-told}
-use borrow.Author.Rules.{rules}
 use Rattle.words.proofs.refused.put_carried.Goals as goal
 
 abbrev carried : Refusal → List ℕ

@@ -10,7 +10,6 @@ use Rattle.words.specs.Refused.{carried_words, refused_words}
 use Rattle.text.proofs.Stores.{behind}
 use Rattle.words.proofs.Stores.{whole, no-room}
 use Rattle.words.proofs.Lengths.{refused-forty}
-use borrow.Author.Rules.{rules}
 use Rattle.words.proofs.refused.put_refused.Goals as goal
 
 pub returns-then-out-lt-WORDS : goal.returns-then-out-lt-WORDS

@@ -6,7 +6,6 @@ use lib.ListN.{length-set}
 use Rattle.frame.specs.Answer.{letters}
 use Rattle.words.specs.Part.{zeros}
 use Rattle.text.proofs.Stores.{four}
-use borrow.Author.Rules.{rules}
 use Rattle.words.proofs.refused.put_types.Goals as goal
 
 pub put_type-requires : goal.put_type-requires

@@ -5,7 +5,6 @@ use mathlib.Core.List.{[], ◌∷◌}
 use lib.ListN.{length-set}
 use Rattle.words.specs.Part.{zeros}
 use Rattle.text.proofs.Stores.{three}
-use borrow.Author.Rules.{rules}
 use Rattle.words.proofs.refused.put_values.Goals as goal
 
 pub put_two-requires : goal.put_two-requires

@@ -9,7 +9,6 @@ use Rattle.fields.specs.Answer.{short_held}
 use Rattle.words.specs.Part.{short_words}
 use Rattle.text.proofs.Stores.{behind}
 use Rattle.words.proofs.Lengths.{short-five}
-use borrow.Author.Rules.{rules}
 use Rattle.words.proofs.rmc_words.put_ending.Goals as goal
 
 pub bounds-out-38 : goal.bounds-out-38

@@ -8,7 +8,6 @@ use Rattle.fields.specs.Answer.{time_held, position_held}
 use Rattle.words.specs.Part.{time_words, position_words}
 use Rattle.text.proofs.Stores.{three}
 use Rattle.words.proofs.Lengths.{time-five}
-use borrow.Author.Rules.{rules}
 use Rattle.words.proofs.rmc_words.put_fix.Goals as goal
 
 pub put_position-requires : goal.put_position-requires

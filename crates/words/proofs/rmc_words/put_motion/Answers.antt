@@ -5,7 +5,6 @@ use Rattle.fields.specs.Answer.{date_held, short_held}
 use Rattle.words.specs.Part.{date_words, short_words}
 use Rattle.text.proofs.Stores.{three}
 use Rattle.words.proofs.Lengths.{short-five}
-use borrow.Author.Rules.{rules}
 use Rattle.words.proofs.rmc_words.put_motion.Goals as goal
 
 pub returns : goal.returns

@@ -10,7 +10,6 @@ use Rattle.words.specs.Answer.{rmc_sentence}
 use Rattle.text.proofs.Stores.{five}
 use Rattle.words.proofs.Stores.{whole, no-room}
 use Rattle.words.proofs.Lengths.{fix-fifteen, motion-fourteen, ending-seven, rmc-forty}
-use borrow.Author.Rules.{rules}
 use Rattle.words.proofs.rmc_words.put_rmc.Goals as goal
 
 pub returns-then-out-lt-WORDS : goal.returns-then-out-lt-WORDS

@@ -11,7 +11,6 @@ use Rattle.words.specs.Part.{dop_words}
 use Rattle.words.specs.Vtg.{speed_words}
 use Rattle.text.proofs.Stores.{three}
 use Rattle.words.proofs.Stores.{as-told, told}
-use borrow.Author.Rules.{rules}
 use Rattle.words.proofs.vtg_words.put_speed.Goals as goal
 
 pub returns-in-Absent : goal.returns-in-Absent

@@ -11,7 +11,6 @@ use Rattle.words.specs.Answer.{vtg_sentence}
 use Rattle.text.proofs.Stores.{four}
 use Rattle.words.proofs.Stores.{whole, no-room}
 use Rattle.words.proofs.Lengths.{short-five, speed-seven, vtg-forty}
-use borrow.Author.Rules.{rules}
 use Rattle.words.proofs.vtg_words.put_vtg.Goals as goal
 
 pub returns-then-out-lt-WORDS : goal.returns-then-out-lt-WORDS

@@ -2,7 +2,6 @@
 use native.Mathlib.Omega.{arith}
 use mathlib.Core.Path.{refl, sym}
 use Rattle.frame.proofs.Ranges.{turned, outside, within}
-use borrow.Author.Rules.{rules}
 use Rattle.frame.proofs.sentence.Sentence.data.Goals as goal
 
 pub returns-then-to-from : goal.returns-then-to-from

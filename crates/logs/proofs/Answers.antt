@@ -1,6 +1,5 @@
 -- What a walk answers, test by test as the code asks them: each answer is what `walk_of` has there. Assumes nothing.
-use Rattle.std.proofs.Common.{◌≡◌, ℕ, ◌-◌, ◌<◌, ◌≤◌, Bool, true, false, not, List, length, sym, ap, ◌∙◌, arith, le-ltb, lt-ltb}
-use borrow.Author.Tests.{not-true, not-false}
+use Rattle.std.proofs.Common.{◌≡◌, ℕ, ◌-◌, ◌<◌, ◌≤◌, Bool, true, false, List, length, sym, ap, ◌∙◌, arith, le-ltb, lt-ltb}
 use Rattle.frame.specs.declared.refusal.Refusal.TheVariants.{LogTooLong, BadPlace}
 use Rattle.lines.specs.Places.{is_place}
 use Rattle.fed.specs.Line.{Gatherer}

@@ -1,6 +1,5 @@
 -- What a step answers, test by test as the code asks them: each answer is what `step_of` has there. Assumes nothing.
-use Rattle.std.proofs.Common.{◌≡◌, ℕ, ◌<◌, ◌≤◌, Bool, true, false, not, List, [], length, sym, refl, ap, ◌∙◌, subst, le-ltb, lt-ltb, eq-eqb, ne_eqb}
-use borrow.Author.Tests.{not-true, not-false}
+use Rattle.std.proofs.Common.{◌≡◌, ℕ, ◌<◌, ◌≤◌, Bool, true, false, List, [], length, sym, refl, ap, ◌∙◌, subst, le-ltb, lt-ltb, eq-eqb, ne_eqb}
 use Rattle.frame.specs.Refused.{log_too_long, bad_place}
 use Rattle.frame.specs.declared.refusal.Refusal.TheVariants.{LogTooLong, BadPlace}
 use Rattle.lines.specs.Places.{is_place, line_at, next_place}

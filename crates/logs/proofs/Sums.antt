@@ -1,7 +1,6 @@
 -- Totals are counts of the log's lines, whatever its length: each step counts the line that it answers. Assumes nothing.
 use Rattle.std.proofs.Common.{◌≡◌, ℕ, zero, suc, ◌+◌, ◌-◌, ◌<◌, ◌≤◌, Bool, true, false, ltb, ◌⊎◌, List, [], length, take, drop, sym, refl, ap, ◌∙◌, inl, inr, ⊎_elim, arith, length-drop, drop_of_length-le, ltb-false, ltb-true}
 use lib.Seq.{take-nil}
-use Rattle.lines.specs.Lines.{lines}
 use Rattle.lines.specs.Places.{is_place, rest, line_at, next_place}
 use Rattle.lines.proofs.Next.{next-place, drop-next, lines-here, lines-end}
 use Rattle.fed.specs.Line.{LogLine, said_of, said_all, accepted_gsv, Gatherer, gathers, is_blank, is_accepted, is_refusal}

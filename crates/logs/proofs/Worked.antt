@@ -1,5 +1,5 @@
 -- 01's rules on logs at work, by computing: the worked log, allowances and places, and runs of every kind. Assumes nothing.
-use Rattle.std.proofs.Common.{◌≡◌, ℕ, ◌+◌, List, [], ◌∷◌, ◌++◌, map, refl}
+use Rattle.std.proofs.Common.{◌≡◌, ℕ, List, [], ◌∷◌, ◌++◌, map, refl}
 use mathlib.Core.Option.{Option, none, some}
 use Rattle.utf8.specs.Utf8.{follow, step as utf8_step, after, ascii}
 use Rattle.text.specs.Bytes.{bytes}

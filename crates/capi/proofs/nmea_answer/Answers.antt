@@ -1,5 +1,5 @@
 -- `nmea_answer` meets its contract: without room nothing is written, else the words of the answer are. Assumes nothing.
-use Rattle.std.proofs.Common.{refl, rules}
+use Rattle.std.proofs.Common.{refl}
 use Rattle.capi.proofs.Says.{no-room, written}
 use Rattle.capi.proofs.nmea_answer.Goals as goal
 

@@ -1,6 +1,6 @@
 -- `nmea_refusal` meets its contract: the number is that of the answer to the line, and no refusal of a line has the number 0.
 -- Assumes nothing.
-use Rattle.std.proofs.Common.{refl, rules}
+use Rattle.std.proofs.Common.{refl}
 use Rattle.capi.proofs.Says.{said}
 use Rattle.capi.proofs.nmea_refusal.Goals as goal
 

@@ -1,6 +1,5 @@
 -- `anew` meets its contract: each arm makes the refusal that it is told. Assumes nothing.
 use mathlib.Core.Path.{sym}
-use borrow.Author.Rules.{rules}
 use Rattle.intake.proofs.anew.Goals as goal
 
 pub returns-in-BadUtf8 : goal.returns-in-BadUtf8

@@ -1,16 +1,9 @@
 -- `dispatch` meets its contract: the formatter decides which reader's answer stands. Assumes nothing.
-use Rattle.std.specs.Prelude.{◌≡◌, ℕ, List}
 use mathlib.Core.Path.{refl}
-use Rattle.frame.specs.Frame.{Parts}
 use Rattle.frame.specs.Answer.{parts}
-use Rattle.answer.specs.Sentence.{is_other, read_as, dispatch}
-use Rattle.sentence.specs.Answer.{formatter}
-use Rattle.sentence.specs.declared.Formatter.{Formatter}
+use Rattle.answer.specs.Sentence.{is_other}
 use Rattle.sentence.proofs.Told.{dispatched}
-use Rattle.intake.specs.Code.{Tells}
-use Rattle.intake.specs.declared.Taken.{Taken}
 use Rattle.intake.proofs.Tells.{as-answer, quiet-taken}
-use borrow.Author.Rules.{rules}
 use Rattle.intake.proofs.dispatch.Goals as goal
 
 pub returns-in-Rmc : goal.returns-in-Rmc

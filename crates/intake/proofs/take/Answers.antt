@@ -1,7 +1,6 @@
 -- `take` meets its contract: what was told, and a refusal in words. Assumes nothing.
 use mathlib.Core.Path.{refl}
 use Rattle.intake.proofs.Briefs.{record-whole, refusal-whole}
-use borrow.Author.Rules.{rules}
 use Rattle.intake.proofs.take.Goals as goal
 
 pub returns-in-Accepted : goal.returns-in-Accepted

@@ -1,16 +1,12 @@
 -- `take_gga` meets its contract: what the reader of the data says, in words where it is a record. Assumes nothing.
-use Rattle.std.specs.Prelude.{◌≡◌}
 use mathlib.Core.Path.{refl}
-use Rattle.frame.specs.Answer.{talker_bytes, parts}
 use Rattle.frame.specs.declared.refusal.Refusal.TheVariants.{Syntax, Number, BadTime}
 use Rattle.gga.specs.Gga.{gga}
 use Rattle.gga.specs.Answer.{gga_read}
-use Rattle.gga.specs.declared.GgaRead.{GgaRead}
-use Rattle.answer.specs.Sentence.{is_gga, or_refused, as_gga, gga_of}
+use Rattle.answer.specs.Sentence.{is_gga, as_gga}
 use Rattle.words.specs.Answer.{gga_sentence}
 use Rattle.sentence.proofs.Told.{data-says}
 use Rattle.intake.proofs.Tells.{not-taken, quiet-taken}
-use borrow.Author.Rules.{rules}
 use Rattle.intake.proofs.take_gga.Goals as goal
 
 pub returns-in-Syntax : goal.returns-in-Syntax

@@ -1,16 +1,12 @@
 -- `take_gll` meets its contract: what the reader of the data says, in words where it is a record. Assumes nothing.
-use Rattle.std.specs.Prelude.{◌≡◌}
 use mathlib.Core.Path.{refl}
-use Rattle.frame.specs.Answer.{talker_bytes, parts}
 use Rattle.frame.specs.declared.refusal.Refusal.TheVariants.{Syntax, Number, BadTime}
 use Rattle.gll.specs.Gll.{gll}
 use Rattle.gll.specs.Answer.{gll_read}
-use Rattle.gll.specs.declared.GllRead.{GllRead}
-use Rattle.answer.specs.Sentence.{is_gll, or_refused, as_gll, gll_of}
+use Rattle.answer.specs.Sentence.{is_gll, as_gll}
 use Rattle.words.specs.Answer.{gll_sentence}
 use Rattle.sentence.proofs.Told.{data-says}
 use Rattle.intake.proofs.Tells.{not-taken, quiet-taken}
-use borrow.Author.Rules.{rules}
 use Rattle.intake.proofs.take_gll.Goals as goal
 
 pub returns-in-Syntax : goal.returns-in-Syntax

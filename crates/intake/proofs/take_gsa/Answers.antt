@@ -1,21 +1,14 @@
 -- `take_gsa` meets its contract: what the reader of the data says, and the system that is settled, in words where it is a record.
 -- Assumes nothing.
-use Rattle.std.specs.Prelude.{◌≡◌, ℕ, List, take}
-use mathlib.Core.Path.{refl, ap, ◌∙◌}
-use Rattle.frame.specs.Answer.{talker_bytes, parts}
+use Rattle.std.specs.Prelude.{take}
+use mathlib.Core.Path.{ap, ◌∙◌}
+use Rattle.frame.specs.Answer.{talker_bytes}
 use Rattle.frame.specs.declared.refusal.Refusal.TheVariants.{Syntax, Number, SystemMismatch}
-use Rattle.gsa.specs.Answer.{said, settled, gsa_of as gsa_data}
-use Rattle.gsa.specs.declared.GsaAnswer.{GsaAnswer}
+use Rattle.gsa.specs.Answer.{gsa_of as gsa_data}
 use Rattle.gsa.specs.declared.GsaHead.{GsaHead}
-use Rattle.gsa.specs.declared.Settled.{Settled}
-use Rattle.answer.specs.Sentence.{is_gsa, or_refused, settled_gsa, as_gsa, gsa_of}
-use Rattle.words.specs.Words.{into}
-use Rattle.words.specs.Answer.{gsa_row}
+use Rattle.answer.specs.Sentence.{is_gsa}
 use Rattle.sentence.proofs.Satellites.{held, read-says, settled-says}
-use Rattle.intake.specs.Code.{Tells}
-use Rattle.intake.specs.declared.Taken.TheVariants.{Accepted}
 use Rattle.intake.proofs.Tells.{not-taken, gsa-taken}
-use borrow.Author.Rules.{rules}
 use Rattle.intake.proofs.take_gsa.Goals as goal
 
 pub returns-in-Syntax : goal.returns-in-Syntax

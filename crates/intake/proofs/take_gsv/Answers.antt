@@ -1,21 +1,18 @@
 -- `take_gsv` meets its contract: the talker decides, then the head, which alone tells whether the sentence is accepted. Assumes nothing.
-use Rattle.std.specs.Prelude.{◌≡◌, drop}
+use Rattle.std.specs.Prelude.{drop}
 use mathlib.Core.Path.{refl, ap, sym, ◌∙◌}
 use mathlib.Core.Option.{Option}
-use borrow.Author.Tests.{not-true}
-use Rattle.text.specs.Value.{Value, value}
+use Rattle.text.specs.Value.{Value}
 use Rattle.frame.specs.Answer.{parts}
 use Rattle.frame.specs.declared.refusal.Refusal.TheVariants.{Syntax, UnknownTalker}
 use Rattle.gsv.specs.Talker.{Talker}
 use Rattle.gsv.specs.Gsv.{Gsv, gsv}
 use Rattle.gsv.specs.Answer.{talker, talker_read, head_of}
-use Rattle.gsv.specs.declared.TalkerOf.{TalkerOf}
 use Rattle.gsv.proofs.Heads.{made, filled, no-head, behind-head}
-use Rattle.answer.specs.Sentence.{or_refused, as_gsv, gsv_by, gsv_of}
+use Rattle.answer.specs.Sentence.{or_refused, as_gsv, gsv_by}
 use Rattle.sentence.proofs.Told.{data-says}
 use Rattle.intake.specs.Brief.{brief_of}
 use Rattle.intake.proofs.Tells.{not-taken, gsv-taken, unwanted}
-use borrow.Author.Rules.{rules}
 use Rattle.intake.proofs.take_gsv.Goals as goal
 
 pub returns-in_default : goal.returns-in_default

@@ -1,16 +1,12 @@
 -- `take_rmc` meets its contract: what the reader of the data says, in words where it is a record. Assumes nothing.
-use Rattle.std.specs.Prelude.{◌≡◌}
 use mathlib.Core.Path.{refl}
-use Rattle.frame.specs.Answer.{talker_bytes, parts}
 use Rattle.frame.specs.declared.refusal.Refusal.TheVariants.{Syntax, Number, BadTime}
 use Rattle.rmc.specs.Rmc.{rmc}
 use Rattle.rmc.specs.Answer.{rmc_read}
-use Rattle.rmc.specs.declared.RmcRead.{RmcRead}
-use Rattle.answer.specs.Sentence.{is_rmc, or_refused, as_rmc, rmc_of}
+use Rattle.answer.specs.Sentence.{is_rmc, as_rmc}
 use Rattle.words.specs.Answer.{rmc_sentence}
 use Rattle.sentence.proofs.Told.{data-says}
 use Rattle.intake.proofs.Tells.{not-taken, quiet-taken}
-use borrow.Author.Rules.{rules}
 use Rattle.intake.proofs.take_rmc.Goals as goal
 
 pub returns-in-Syntax : goal.returns-in-Syntax

@@ -1,16 +1,12 @@
 -- `take_vtg` meets its contract: what the reader of the data says, in words where it is a record. Assumes nothing.
-use Rattle.std.specs.Prelude.{◌≡◌}
 use mathlib.Core.Path.{refl}
-use Rattle.frame.specs.Answer.{talker_bytes, parts}
 use Rattle.frame.specs.declared.refusal.Refusal.TheVariants.{Syntax, Number}
 use Rattle.vtg.specs.Vtg.{vtg}
 use Rattle.vtg.specs.Answer.{vtg_read}
-use Rattle.vtg.specs.declared.VtgRead.{VtgRead}
-use Rattle.answer.specs.Sentence.{is_vtg, or_refused, as_vtg, vtg_of}
+use Rattle.answer.specs.Sentence.{is_vtg, as_vtg}
 use Rattle.words.specs.Answer.{vtg_sentence}
 use Rattle.sentence.proofs.Told.{data-says}
 use Rattle.intake.proofs.Tells.{not-taken, quiet-taken}
-use borrow.Author.Rules.{rules}
 use Rattle.intake.proofs.take_vtg.Goals as goal
 
 pub returns-in-Syntax : goal.returns-in-Syntax

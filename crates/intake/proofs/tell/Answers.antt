@@ -4,7 +4,6 @@ use Rattle.frame.specs.declared.parse.Framed.TheVariants.{Refused}
 use Rattle.answer.specs.Sentence.{dispatch, answer}
 use Rattle.sentence.proofs.Told.{framed-refused, framed-is, framed-within}
 use Rattle.intake.proofs.Tells.{as-answer, not-taken}
-use borrow.Author.Rules.{rules}
 use Rattle.intake.proofs.tell.Goals as goal
 
 pub dispatch-requires : goal.dispatch-requires

@@ -1,7 +1,7 @@
 -- `nmea_fresh` meets its contract. The loop's invariant: the first `i` words are 0, and the others stand. Assumes nothing.
-use Rattle.std.proofs.Common.{◌≡◌, ℕ, ◌-◌, ◌≤◌, List, length, set, sym, refl, ap, ◌∙◌, subst, arith}
+use Rattle.std.proofs.Common.{ℕ, List, length, set, sym, refl, ap, ◌∙◌, subst, arith}
 use Rattle.capi.specs.Lend.{Freshened}
-use Rattle.capi.proofs.Lending.{cleared, cleared-long, cleared-next, all-cleared, not-cleared}
+use Rattle.capi.proofs.Lending.{cleared-long, cleared-next, all-cleared, not-cleared}
 use Rattle.capi.proofs.lend.nmea_fresh.Goals as goal
 
 pub returns-then-table-ne-WORDS : goal.returns-then-table-ne-WORDS

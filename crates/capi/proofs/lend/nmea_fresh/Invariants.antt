@@ -1,7 +1,6 @@
 -- What each turn of the loop keeps, and what falls.
-use Rattle.std.proofs.Common.{◌≡◌, ℕ, ◌-◌, ◌≤◌, List, length, set, sym, refl, ap, ◌∙◌, subst, arith}
-use Rattle.capi.specs.Lend.{Freshened}
-use Rattle.capi.proofs.Lending.{cleared, cleared-long, cleared-next, all-cleared, not-cleared}
+use Rattle.std.proofs.Common.{◌≡◌, ◌-◌, ◌≤◌}
+use Rattle.capi.proofs.Lending.{cleared}
 use Rattle.capi.proofs.lend.nmea_fresh.Given as goal
 
 abbrev pub invariant-loop-i : goal.invariant-loop-i

@@ -1,5 +1,5 @@
 -- `nmea_gather` meets its contract: the line is taken, with its words and its row. Assumes nothing.
-use Rattle.std.proofs.Common.{refl, rules}
+use Rattle.std.proofs.Common.{refl}
 use Rattle.capi.proofs.Lending.{few-words, no-table, line-taken}
 use Rattle.capi.proofs.lend.nmea_gather.Goals as goal
 

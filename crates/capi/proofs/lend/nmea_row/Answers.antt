@@ -1,5 +1,5 @@
 -- `nmea_row` meets its contract: the part that is read is the row. Assumes nothing.
-use Rattle.std.proofs.Common.{◌≡◌, ◌+◌, ◌-◌, ◌*◌, take, drop, refl, arith, rules}
+use Rattle.std.proofs.Common.{◌≡◌, ◌+◌, ◌-◌, ◌*◌, take, drop, refl, arith}
 use Rattle.capi.proofs.Lending.{few-row-words, no-row-table, no-such-row, row-taken}
 use Rattle.capi.proofs.lend.nmea_row.Goals as goal
 

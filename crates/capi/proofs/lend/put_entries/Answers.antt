@@ -1,5 +1,5 @@
 -- `put_entries` meets its contract. The loop's invariant: the first `i` entries are put. Assumes nothing.
-use Rattle.std.proofs.Common.{◌≡◌, ℕ, ◌-◌, ◌≤◌, length, refl, ap, ◌∙◌, arith}
+use Rattle.std.proofs.Common.{◌≡◌, ℕ, refl, ap, ◌∙◌, arith}
 use lib.Seq.{sets}
 use Rattle.gather.specs.Words.{sats_from}
 use Rattle.capi.specs.Lend.{entries_words}

@@ -1,9 +1,8 @@
 -- What each turn of the loop keeps, and what falls.
-use Rattle.std.proofs.Common.{◌≡◌, ℕ, ◌-◌, ◌≤◌, length, refl, ap, ◌∙◌, arith}
+use Rattle.std.proofs.Common.{◌≡◌, ◌-◌, ◌≤◌, length}
 use lib.Seq.{sets}
 use Rattle.gather.specs.Words.{sats_from}
 use Rattle.capi.specs.Lend.{entries_words}
-use Rattle.capi.proofs.Lending.{one-entry}
 use Rattle.capi.proofs.lend.put_entries.Given as goal
 
 abbrev pub invariant-loop-i : goal.invariant-loop-i

@@ -1,5 +1,5 @@
 -- `put_entry` meets its contract: eight words, two at a time. Assumes nothing.
-use Rattle.std.proofs.Common.{ℕ, ◌+◌, ◌*◌, get_or, refl, ◌∙◌, arith, length-set, rules}
+use Rattle.std.proofs.Common.{ℕ, ◌+◌, ◌*◌, get_or, refl, ◌∙◌, arith, length-set}
 use Rattle.gather.specs.Words.{number_of}
 use Rattle.capi.proofs.Lending.{two-long, entry-room, entry-stored}
 use Rattle.capi.proofs.lend.put_entry.Goals as goal

@@ -1,5 +1,5 @@
 -- `put_head` meets its contract: five words, one after the other. Assumes nothing.
-use Rattle.std.proofs.Common.{◌+◌, [], ◌∷◌, get_or, arith, rules}
+use Rattle.std.proofs.Common.{◌+◌, [], ◌∷◌, get_or, arith}
 use lib.Seq.{length-sets}
 use Rattle.capi.proofs.lend.put_head.Goals as goal
 

@@ -1,5 +1,5 @@
 -- `put_option` meets its contract: the word of what is absent has two zeros, any other a 1 before it. Assumes nothing.
-use Rattle.std.proofs.Common.{arith, length-set, rules}
+use Rattle.std.proofs.Common.{arith, length-set}
 use Rattle.capi.proofs.Lending.{put-absent, put-known}
 use Rattle.capi.proofs.lend.put_option.Goals as goal
 

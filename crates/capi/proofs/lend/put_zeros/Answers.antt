@@ -1,5 +1,5 @@
 -- `put_zeros` meets its contract. The loop's invariant: the words from `from` to `j` are 0. Assumes nothing.
-use Rattle.std.proofs.Common.{◌≡◌, ℕ, ◌-◌, ◌≤◌, length, refl, ap, ◌∙◌, arith, length-set}
+use Rattle.std.proofs.Common.{◌≡◌, ℕ, ◌-◌, refl, ap, ◌∙◌, arith, length-set}
 use lib.Seq.{sets}
 use Rattle.words.specs.Part.{zeros}
 use Rattle.capi.proofs.Lending.{one-zero}

@@ -1,8 +1,7 @@
 -- What each turn of the loop keeps, and what falls.
-use Rattle.std.proofs.Common.{◌≡◌, ℕ, ◌-◌, ◌≤◌, length, refl, ap, ◌∙◌, arith, length-set}
+use Rattle.std.proofs.Common.{◌≡◌, ◌-◌, ◌≤◌, length}
 use lib.Seq.{sets}
 use Rattle.words.specs.Part.{zeros}
-use Rattle.capi.proofs.Lending.{one-zero}
 use Rattle.capi.proofs.lend.put_zeros.Given as goal
 
 abbrev pub invariant-loop-j : goal.invariant-loop-j

@@ -1,5 +1,5 @@
 -- `read_row` meets its contract: head, entries and zeros, one behind the other. Assumes nothing.
-use Rattle.std.proofs.Common.{arith, rules}
+use Rattle.std.proofs.Common.{arith}
 use Rattle.capi.proofs.Lending.{too-many, all-read}
 use Rattle.capi.proofs.lend.read_row.Goals as goal
 

@@ -1,5 +1,4 @@
 -- `row_code` meets its contract: outcome by outcome. Assumes nothing.
-use Rattle.std.proofs.Common.{rules}
 use Rattle.capi.proofs.Lending.{last-code}
 use Rattle.capi.proofs.lend.row_code.Goals as goal
 

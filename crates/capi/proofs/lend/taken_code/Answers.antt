@@ -1,5 +1,5 @@
 -- `taken_code` meets its contract: a GSV line's row is that of its talker's source. Assumes nothing.
-use Rattle.std.proofs.Common.{sym, ap, ◌∙◌, arith, rules}
+use Rattle.std.proofs.Common.{sym, ap, ◌∙◌, arith}
 use Rattle.rows.specs.Key.{Source, row_from}
 use Rattle.gather.specs.Answer.{source}
 use Rattle.gather.proofs.Tables.{row-below}

@@ -1,5 +1,5 @@
 -- `nmea_walk` meets its contract: the totals of the walk, or its refusal, where there is room for them. Assumes nothing.
-use Rattle.std.proofs.Common.{refl, rules}
+use Rattle.std.proofs.Common.{refl}
 use mir.Facts.{clash}
 use Rattle.capi.proofs.Walks.{tells-refused, tells-went}
 use Rattle.capi.proofs.totals.nmea_walk.Goals as goal

@@ -1,5 +1,5 @@
 -- `put_totals` meets its contract: five words are stored one after the other. Assumes nothing.
-use Rattle.std.proofs.Common.{arith, length-set, rules}
+use Rattle.std.proofs.Common.{arith, length-set}
 use Rattle.capi.proofs.Walks.{five-stored}
 use Rattle.capi.proofs.totals.put_totals.Goals as goal
 

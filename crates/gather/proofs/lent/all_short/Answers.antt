@@ -1,8 +1,7 @@
 -- `all_short` meets its contract: in both loops the cells that are left decide, of which a turn tests four or one. Assumes nothing.
-use Prim.Native.Nat.{ℕ, ◌-◌, ◌≤◌}
+use Prim.Native.Nat.{ℕ, ◌-◌}
 use native.Mathlib.Omega.{arith}
 use mathlib.Core.Path.{◌≡◌, ap, sym, ◌∙◌}
-use borrow.Author.Rules.{rules}
 use Rattle.gather.specs.Words.{sats_from}
 use Rattle.gather.specs.Code.{all_within, short_max}
 use Rattle.gather.proofs.Greedy.{cells-none}

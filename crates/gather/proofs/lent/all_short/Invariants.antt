@@ -1,12 +1,8 @@
 -- What each turn of the loop keeps, and what falls.
-use Prim.Native.Nat.{ℕ, ◌-◌, ◌≤◌}
-use native.Mathlib.Omega.{arith}
-use mathlib.Core.Path.{◌≡◌, ap, sym, ◌∙◌}
-use borrow.Author.Rules.{rules}
+use Prim.Native.Nat.{◌-◌, ◌≤◌}
+use mathlib.Core.Path.{◌≡◌}
 use Rattle.gather.specs.Words.{sats_from}
 use Rattle.gather.specs.Code.{all_within, short_max}
-use Rattle.gather.proofs.Greedy.{cells-none}
-use Rattle.gather.proofs.Bits.{one-cell, four-cells, fails, goes}
 use Rattle.gather.proofs.lent.all_short.Given as goal
 
 abbrev pub invariant-loop-i : goal.invariant-loop-i

@@ -1,9 +1,8 @@
 -- `all_within` meets its contract: the loop: the cells that are left decide. Assumes nothing.
-use Prim.Native.Nat.{ℕ, ◌+◌, ◌-◌, ◌≤◌}
+use Prim.Native.Nat.{ℕ, ◌+◌, ◌-◌}
 use native.Mathlib.Omega.{arith}
 use mathlib.Core.Path.{◌≡◌, ap, sym, ◌∙◌}
 use mathlib.Core.Bool.{Bool, ◌&&◌}
-use borrow.Author.Rules.{rules}
 use Rattle.gather.specs.Words.{sats_from}
 use Rattle.gather.specs.Code.{all_within}
 use Rattle.gather.proofs.Tests.{failed, passed}

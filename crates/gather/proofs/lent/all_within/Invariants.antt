@@ -1,13 +1,8 @@
 -- What each turn of the loop keeps, and what falls.
-use Prim.Native.Nat.{ℕ, ◌+◌, ◌-◌, ◌≤◌}
-use native.Mathlib.Omega.{arith}
-use mathlib.Core.Path.{◌≡◌, ap, sym, ◌∙◌}
-use mathlib.Core.Bool.{Bool, ◌&&◌}
-use borrow.Author.Rules.{rules}
+use Prim.Native.Nat.{◌-◌, ◌≤◌}
+use mathlib.Core.Path.{◌≡◌}
 use Rattle.gather.specs.Words.{sats_from}
 use Rattle.gather.specs.Code.{all_within}
-use Rattle.gather.proofs.Tests.{failed, passed}
-use Rattle.gather.proofs.Greedy.{cell-first, cells-none}
 use Rattle.gather.proofs.lent.all_within.Given as goal
 
 abbrev pub invariant-loop-i : goal.invariant-loop-i

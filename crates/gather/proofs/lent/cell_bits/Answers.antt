@@ -1,5 +1,4 @@
 -- `cell_bits` meets its contract: word by word. Assumes nothing.
-use borrow.Author.Rules.{rules}
 use Rattle.gather.proofs.lent.cell_bits.Goals as goal
 
 pub returns : goal.returns

@@ -1,5 +1,4 @@
 -- `cell_within` meets its contract: word by word. Assumes nothing.
-use borrow.Author.Rules.{rules}
 use borrow.Author.Tests.{le-leb, lt-leb}
 use Rattle.gather.proofs.Tests.{failed, passed}
 use Rattle.gather.proofs.lent.cell_within.Goals as goal

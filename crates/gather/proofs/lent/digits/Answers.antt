@@ -1,5 +1,4 @@
 -- `digits` meets its contract: the loop: a digit for each tenth. Assumes nothing.
-use Prim.Native.Nat.{◌+◌, ◌≤◌}
 use mathlib.Core.Path.{◌≡◌}
 use native.Mathlib.Omega.{arith}
 use lib.ListN.{length}

@@ -1,11 +1,8 @@
 -- What each turn of the loop keeps, and what falls.
 use Prim.Native.Nat.{◌+◌, ◌≤◌}
 use mathlib.Core.Path.{◌≡◌}
-use native.Mathlib.Omega.{arith}
 use lib.ListN.{length}
 use Rattle.short.specs.Digits.{digits_of}
-use Rattle.short.proofs.Digits.{few-digits, some-digit, count-tenth}
-use Rattle.gather.proofs.Greedy.{one}
 use Rattle.gather.proofs.lent.digits.Given as goal
 
 abbrev pub invariant-loop-n : goal.invariant-loop-n

@@ -1,5 +1,4 @@
 -- `opt_digits` meets its contract: by whether the word is the absent one. Assumes nothing.
-use borrow.Author.Rules.{rules}
 use Rattle.gather.proofs.Greedy.{no-digits, its-digits}
 use Rattle.gather.proofs.lent.opt_digits.Goals as goal
 

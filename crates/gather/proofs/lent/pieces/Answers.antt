@@ -1,14 +1,11 @@
 -- `pieces` meets its contract: the loop: greedy packing, a cell at a time. Assumes nothing.
-use Prim.Native.Nat.{ℕ, ◌-◌, ◌≤◌}
-use mathlib.Core.Path.{◌≡◌, ap, ◌∙◌}
+use Prim.Native.Nat.{ℕ, ◌-◌}
+use mathlib.Core.Path.{ap, ◌∙◌}
 use native.Mathlib.Omega.{arith}
-use borrow.Author.Rules.{rules}
-use lib.ListN.{length}
-use Rattle.short.specs.Digits.{digits_of}
 use Rattle.pack.specs.Cut.{piece_count}
 use Rattle.rows.specs.Leave.{entry_size}
 use Rattle.gather.specs.Words.{sats_from}
-use Rattle.gather.proofs.Greedy.{Small, Packing, start, small-turn, pack-turn, pack-end}
+use Rattle.gather.proofs.Greedy.{start, small-turn, pack-turn, pack-end}
 use Rattle.gather.proofs.lent.pieces.Goals as goal
 
 pub loop-i-init : goal.loop-i-init

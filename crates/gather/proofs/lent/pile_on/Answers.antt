@@ -1,7 +1,6 @@
 -- `pile_on` meets its contract: by whether there is room. Assumes nothing.
 use native.Mathlib.Omega.{arith}
 use Rattle.gather.proofs.Greedy.{put-here, put-full, put-over}
-use borrow.Author.Rules.{rules}
 use Rattle.gather.proofs.lent.pile_on.Goals as goal
 
 pub returns-then-p-ge-ENTRIES : goal.returns-then-p-ge-ENTRIES

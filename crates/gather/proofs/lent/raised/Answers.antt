@@ -1,6 +1,5 @@
 -- `raised` meets its contract: by whether the word is the absent one. Assumes nothing.
 use borrow.Author.Tests.{eq-eqb, ne_eqb}
-use borrow.Author.Rules.{rules}
 use Rattle.gather.proofs.lent.raised.Goals as goal
 
 pub returns-then-x-eq-ABSENT : goal.returns-then-x-eq-ABSENT

@@ -4,7 +4,6 @@ use mathlib.Core.Path.{refl, sym, ◌∙◌}
 use borrow.Author.Tests.{le-leb, lt-leb, eq-eqb, ne_eqb}
 use Rattle.gather.proofs.Tests.{failed, passed}
 use Rattle.gather.proofs.Quick.{Head, many-fails, short-stands, unreadable, exact}
-use borrow.Author.Rules.{rules}
 use Rattle.gather.proofs.lent.row_stands.Goals as goal
 
 pub returns-then-row-ne-ROW : goal.returns-then-row-ne-ROW

@@ -1,5 +1,4 @@
 -- `size_at` meets its contract: the digits of the four words, and a comma for each. Assumes nothing.
-use borrow.Author.Rules.{rules}
 use Rattle.gather.proofs.Greedy.{sized}
 use Rattle.gather.proofs.lent.size_at.Goals as goal
 

@@ -10,7 +10,6 @@ use Rattle.gather.specs.Words.{meant}
 use Rattle.gather.specs.Code.{before_of}
 use Rattle.gather.proofs.Cells.{stored-long}
 use Rattle.gather.proofs.Runs.{by-head, no-row, stops, runs, completes, waits}
-use borrow.Author.Rules.{rules}
 use Rattle.gather.proofs.line.put.Goals as goal
 
 pub returns-then-row-ne-ROW : goal.returns-then-row-ne-ROW

@@ -2,7 +2,6 @@
 use native.Mathlib.Omega.{arith}
 use lib.ListN.{length-set}
 use Rattle.gather.proofs.Cells.{stored-none, stored-some}
-use borrow.Author.Rules.{rules}
 use Rattle.gather.proofs.line.put_slot.Goals as goal
 
 pub bounds-row-at-in-Seen : goal.bounds-row-at-in-Seen

@@ -3,7 +3,6 @@ use native.Mathlib.Omega.{arith}
 use mathlib.Core.Path.{◌∙◌}
 use Rattle.gsv.specs.Answer.{slot}
 use Rattle.gather.proofs.Cells.{stored-long, stored-one, stored-four}
-use borrow.Author.Rules.{rules}
 use Rattle.gather.proofs.line.put_slots.Goals as goal
 
 pub put_slot-k2-requires : goal.put_slot-k2-requires

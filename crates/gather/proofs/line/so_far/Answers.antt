@@ -4,7 +4,6 @@ use mathlib.Core.Path.{ap, sym}
 use Rattle.gather.specs.Code.{before_of}
 use Rattle.gather.proofs.Tests.{failed, passed}
 use Rattle.gather.proofs.Runs.{no-run, starts, no-row-run, goes}
-use borrow.Author.Rules.{rules}
 use Rattle.gather.proofs.line.so_far.Goals as goal
 
 pub returns-then-not-runs : goal.returns-then-not-runs

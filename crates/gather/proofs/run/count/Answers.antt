@@ -6,7 +6,6 @@ use Rattle.rows.specs.Key.{Source, source_from, row_from}
 use Rattle.gather.specs.Answer.{source}
 use Rattle.gather.proofs.Heads.{no-heads, gathers-head}
 use Rattle.gather.proofs.Tables.{row-below}
-use borrow.Author.Rules.{rules}
 use Rattle.gather.proofs.run.count.Goals as goal
 
 pub returns-then-heads-ne-WORDS : goal.returns-then-heads-ne-WORDS

@@ -3,7 +3,6 @@ use native.Mathlib.Omega.{arith}
 use Rattle.gsv.specs.Answer.{head_of}
 use Rattle.gather.proofs.Tests.{failed, passed}
 use Rattle.gather.proofs.Heads.{broken, ended, waits, low}
-use borrow.Author.Rules.{rules}
 use Rattle.gather.proofs.run.follow.Goals as goal
 
 pub returns-then-not-runs : goal.returns-then-not-runs

@@ -1,7 +1,6 @@
 -- `runs` meets its contract: test by test. Assumes nothing.
 use borrow.Author.Tests.{eq-eqb, ne_eqb, le-leb, lt-leb}
 use Rattle.gather.proofs.Tests.{failed, passed}
-use borrow.Author.Rules.{rules}
 use Rattle.gather.proofs.run.runs.Goals as goal
 
 pub returns-then-h-lt1 : goal.returns-then-h-lt1

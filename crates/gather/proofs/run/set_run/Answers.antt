@@ -1,7 +1,6 @@
 -- `set_run` meets its contract: three stores, one behind the other. Assumes nothing.
 use native.Mathlib.Omega.{arith}
 use lib.ListN.{length-set}
-use borrow.Author.Rules.{rules}
 use Rattle.gather.proofs.run.set_run.Goals as goal
 
 pub bounds-heads-at-2 : goal.bounds-heads-at-2

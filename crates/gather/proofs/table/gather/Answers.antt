@@ -6,7 +6,6 @@ use Rattle.rows.specs.Key.{Source, source_of, row_from}
 use Rattle.rows.specs.Line.{line_of}
 use Rattle.gather.specs.Answer.{source}
 use Rattle.gather.proofs.Tables.{row-below, no-table, gathers}
-use borrow.Author.Rules.{rules}
 use Rattle.gather.proofs.table.gather.Goals as goal
 
 pub returns-then-table-ne-WORDS : goal.returns-then-table-ne-WORDS

@@ -2,7 +2,6 @@
 use native.Mathlib.Omega.{arith}
 use Rattle.gsv.specs.Answer.{gnss}
 use Rattle.gather.proofs.Tables.{number-within}
-use borrow.Author.Rules.{rules}
 use Rattle.gather.proofs.table.row_of.Goals as goal
 
 pub overflow_sub-result : goal.overflow_sub-result

@@ -1,7 +1,6 @@
 -- `source_of` meets its contract: the system that the talker names. Assumes nothing.
 use mathlib.Core.Path.{ap}
 use Rattle.gsv.specs.Talker.{System}
-use borrow.Author.Rules.{rules}
 use Rattle.gather.proofs.table.source_of.Goals as goal
 
 pub returns : goal.returns

@@ -1,6 +1,5 @@
 -- `follow` meets its contract: only a GSV record reaches the table. Assumes nothing.
 use Rattle.logs.proofs.Adds.{follows-gsv}
-use Rattle.std.proofs.Common.{rules}
 use Rattle.logs.proofs.follow.follow.Goals as goal
 
 pub returns-in-Gsv : goal.returns-in-Gsv

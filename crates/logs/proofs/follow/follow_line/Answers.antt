@@ -1,5 +1,4 @@
 -- `follow_line` meets its contract: a blank line does nothing. Assumes nothing.
-use Rattle.std.proofs.Common.{rules}
 use Rattle.logs.proofs.follow.follow_line.Goals as goal
 
 pub returns-in-Read : goal.returns-in-Read

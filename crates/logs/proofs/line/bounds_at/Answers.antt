@@ -1,6 +1,5 @@
 -- `bounds_at` meets its contract: the cut is before a carriage return, and the next line behind the line feed. Assumes nothing.
 use Rattle.logs.proofs.AtPlace.{next-right}
-use Rattle.std.proofs.Common.{rules}
 use Rattle.logs.proofs.line.bounds_at.Goals as goal
 
 pub returns : goal.returns

@@ -1,7 +1,6 @@
 -- `feeds` meets its contract: while none was seen, the line goes on behind the bytes looked at. Assumes nothing.
-use Rattle.std.proofs.Common.{◌≡◌, ◌+◌, ◌-◌, ◌≤◌, length, drop, ap, ◌∙◌, arith, rules}
+use Rattle.std.proofs.Common.{◌≡◌, ◌+◌, length, drop, ap, ◌∙◌, arith}
 use Rattle.lines.specs.Places.{stretch}
-use Rattle.logs.specs.Code.{Clear}
 use Rattle.logs.proofs.Blocks.{clear-none, clear-more}
 use Rattle.logs.proofs.line.feeds.Goals as goal
 

@@ -1,8 +1,6 @@
 -- What each turn of the loop keeps, and what falls.
-use Rattle.std.proofs.Common.{◌≡◌, ◌+◌, ◌-◌, ◌≤◌, length, drop, ap, ◌∙◌, arith, rules}
-use Rattle.lines.specs.Places.{stretch}
+use Rattle.std.proofs.Common.{◌-◌, ◌≤◌}
 use Rattle.logs.specs.Code.{Clear}
-use Rattle.logs.proofs.Blocks.{clear-none, clear-more}
 use Rattle.logs.proofs.line.feeds.Given as goal
 
 abbrev pub invariant-loop-j : goal.invariant-loop-j

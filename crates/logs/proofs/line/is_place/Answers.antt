@@ -1,5 +1,5 @@
 -- `is_place` meets its contract, test by test. Assumes nothing.
-use Rattle.std.proofs.Common.{sym, refl, rules}
+use Rattle.std.proofs.Common.{sym, refl}
 use Rattle.logs.proofs.Places.{place-zero, place-end, place-past, place-feed}
 use Rattle.logs.proofs.line.is_place.Goals as goal
 

@@ -1,5 +1,5 @@
 -- `line_at` meets its contract: the reader's answer to the bytes from the place to the cut. Assumes nothing.
-use Rattle.std.proofs.Common.{refl, rules}
+use Rattle.std.proofs.Common.{refl}
 use Rattle.logs.proofs.AtPlace.{blank-here, read-here, says-blank, says-read}
 use Rattle.logs.proofs.line.line_at.Goals as goal
 

@@ -1,5 +1,5 @@
 -- `line_cut` meets its contract: the line is its stretch, without the carriage return that stands at its end. Assumes nothing.
-use Rattle.std.proofs.Common.{arith, rules}
+use Rattle.std.proofs.Common.{arith}
 use Rattle.lines.proofs.Next.{long-within}
 use Rattle.lines.proofs.Scan.{cut-empty, cut-cr, cut-plain}
 use Rattle.logs.proofs.line.line_cut.Goals as goal

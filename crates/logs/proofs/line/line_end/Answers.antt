@@ -1,6 +1,5 @@
 -- `line_end` meets its contract: the stretch from `at` ends where the one from `i` does. Assumes nothing.
-use Rattle.std.proofs.Common.{◌≡◌, ◌+◌, ◌-◌, length, drop, arith, rules}
-use Rattle.lines.specs.Places.{stretch}
+use Rattle.std.proofs.Common.{arith}
 use Rattle.lines.proofs.Scan.{stretch-here, stretch-more, stretch-end}
 use Rattle.logs.proofs.line.line_end.Goals as goal
 

@@ -1,7 +1,6 @@
 -- What each turn of the loop keeps, and what falls.
-use Rattle.std.proofs.Common.{◌≡◌, ◌+◌, ◌-◌, length, drop, arith, rules}
+use Rattle.std.proofs.Common.{◌≡◌, ◌+◌, ◌-◌, length, drop}
 use Rattle.lines.specs.Places.{stretch}
-use Rattle.lines.proofs.Scan.{stretch-here, stretch-more, stretch-end}
 use Rattle.logs.proofs.line.line_end.Given as goal
 
 abbrev pub invariant-loop-i : goal.invariant-loop-i

@@ -1,6 +1,5 @@
 -- `skip` meets its contract: the stretch from `at` ends where the one from `i` does. Assumes nothing.
-use Rattle.std.proofs.Common.{◌≡◌, ◌+◌, ◌-◌, length, drop, refl, arith, rules}
-use Rattle.lines.specs.Places.{stretch}
+use Rattle.std.proofs.Common.{refl, arith}
 use Rattle.logs.proofs.line.skip.Goals as goal
 
 pub loop-i-init : goal.loop-i-init

@@ -1,5 +1,5 @@
 -- What each turn of the loop keeps, and what falls.
-use Rattle.std.proofs.Common.{◌≡◌, ◌+◌, ◌-◌, length, drop, refl, arith, rules}
+use Rattle.std.proofs.Common.{◌≡◌, ◌+◌, ◌-◌, length, drop}
 use Rattle.lines.specs.Places.{stretch}
 use Rattle.logs.proofs.line.skip.Given as goal
 

@@ -1,5 +1,5 @@
 -- `step` meets its contract: test by test. Assumes nothing.
-use Rattle.std.proofs.Common.{refl, arith, rules}
+use Rattle.std.proofs.Common.{refl, arith}
 use Rattle.logs.proofs.OneStep.{step-long, step-bad, step-within, step-end, step-line}
 use Rattle.logs.proofs.step.step.Goals as goal
 

@@ -1,6 +1,6 @@
 -- `count_line` meets its contract: the line ends at the cut, the core takes it without a table, and a GSV line's head goes on with the run of
 -- its row. Assumes nothing.
-use Rattle.std.proofs.Common.{refl, rules}
+use Rattle.std.proofs.Common.{refl}
 use Rattle.logs.proofs.AtPlace.{blank-here, read-here}
 use Rattle.logs.proofs.Taken.{blank-counted, quiet-counted, gsv-counted}
 use Rattle.logs.proofs.walk.count_line.Goals as goal

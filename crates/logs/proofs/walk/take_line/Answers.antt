@@ -1,5 +1,5 @@
 -- `take_line` meets its contract: the line ends at the cut, and the core takes it. Assumes nothing.
-use Rattle.std.proofs.Common.{refl, rules}
+use Rattle.std.proofs.Common.{refl}
 use Rattle.logs.proofs.AtPlace.{blank-here, read-here}
 use Rattle.logs.proofs.Taken.{blank-taken, line-taken}
 use Rattle.logs.proofs.walk.take_line.Goals as goal

@@ -1,5 +1,5 @@
 -- `tally` meets its contract, sort by sort. Assumes nothing.
-use Rattle.std.proofs.Common.{sym, ap, rules}
+use Rattle.std.proofs.Common.{sym, ap}
 use Rattle.logs.specs.declared.walk.Sort.{Sort}
 use Rattle.logs.specs.Code.{tallied_by}
 use Rattle.logs.proofs.walk.tally.Goals as goal

@@ -1,8 +1,8 @@
 -- `totals` meets its contract: at the loop's head, some table of words has come as far, and the heads are its runs'. Assumes nothing.
-use Rattle.std.proofs.Common.{◌-◌, length, refl, rules}
+use Rattle.std.proofs.Common.{length, refl}
 use Rattle.gather.specs.Table.{fresh_table}
 use Rattle.logs.proofs.Answers.{walk-long}
-use Rattle.logs.proofs.Counting.{Counting, counting-first, counts-within, few-groups, further, after-turn, counted-all}
+use Rattle.logs.proofs.Counting.{counting-first, counts-within, few-groups, further, after-turn, counted-all}
 use Rattle.logs.proofs.walk.totals.Goals as goal
 
 pub returns-then-log-gt-LONGEST : goal.returns-then-log-gt-LONGEST

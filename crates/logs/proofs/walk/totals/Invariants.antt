@@ -1,8 +1,6 @@
 -- What each turn of the loop keeps, and what falls.
-use Rattle.std.proofs.Common.{◌-◌, length, refl, rules}
-use Rattle.gather.specs.Table.{fresh_table}
-use Rattle.logs.proofs.Answers.{walk-long}
-use Rattle.logs.proofs.Counting.{Counting, counting-first, counts-within, few-groups, further, after-turn, counted-all}
+use Rattle.std.proofs.Common.{◌-◌, length}
+use Rattle.logs.proofs.Counting.{Counting}
 use Rattle.logs.proofs.walk.totals.Given as goal
 
 abbrev pub invariant-loop-c : goal.invariant-loop-c

@@ -1,6 +1,5 @@
 -- `walk` meets its contract: at the loop's head, the steps of the whole walk are those that are left. Assumes nothing.
-use Rattle.std.proofs.Common.{◌-◌, length, sym, refl, ◌∙◌, subst, rules}
-use borrow.Author.Tests.{not-false}
+use Rattle.std.proofs.Common.{sym, refl, ◌∙◌, subst}
 use Rattle.logs.specs.declared.walk.Counts.{Counts}
 use Rattle.logs.proofs.Goes.{Goes, goes-first, fit-within, few-groups, further, after-turn}
 use Rattle.logs.proofs.Answers.{walk-long, walk-bad, walk-used, walk-ended}

@@ -1,5 +1,5 @@
 -- `with_group` meets its contract, by whether a group is handed out. Assumes nothing.
-use Rattle.std.proofs.Common.{sym, ap, rules}
+use Rattle.std.proofs.Common.{sym, ap}
 use Rattle.logs.specs.Walk.{grouped}
 use Rattle.logs.proofs.walk.with_group.Goals as goal
 

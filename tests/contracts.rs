@@ -29,13 +29,13 @@ const RENAMED: [(&str, &[Renamed]); 3] = [
             ("result.data.now", "d"),
         ],
     ),
-    ("NmeaSentence::data", &[("self.data", "data-held")]),
+    ("NmeaSentence::data", &[("self.entry.data", "data-held")]),
     (
         "NmeaSentence::calc_checksum",
         &[
-            ("self.talker", "talker"),
-            ("self.kind", "kind"),
-            ("self.data.now", "text"),
+            ("self.entry.talker", "talker"),
+            ("self.entry.kind", "kind"),
+            ("self.entry.data.now", "text"),
         ],
     ),
 ];

@@ -345,13 +345,13 @@ fn is_of(part: &str, name: &str) -> bool {
     part.split('.').next() == Some(name)
 }
 
-/// `x.now ≡ x.now`, of `x` or of what it holds.
+/// `x.now ≡ x.now`, or `x.exit.y.now ≡ x.entry.y.now` of what it holds.
 fn comes_back(fact: &[String]) -> bool {
     let sides = split_words(&bare(fact), "≡");
-    let [after, before] = &sides[..] else {
+    let [[after], [before]] = [&sides[0][..], sides.get(1).map_or(&[], |side| &side[..])] else {
         return false;
     };
-    after == before && after.iter().any(|word| word.ends_with(".now"))
+    after.ends_with(".now") && after.replace(".exit.", ".entry.") == *before
 }
 
 /// What a theorem of `crates/only` states.
@@ -496,6 +496,7 @@ pub fn names(source: &str) -> Names {
 fn handed_on(module: &str) -> &str {
     let same = [
         "Rattle.std.specs.Prelude",
+        "Rattle.std.specs.Float",
         "Rattle.std.proofs.Common",
         "Rattle.std.proofs.Math",
         "mathlib.Core",

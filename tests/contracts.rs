@@ -222,10 +222,11 @@ fn what_is_exported_has_the_contract_of_what_it_calls() {
             };
             compared += 1;
             let [outside, within] = [&found, called].map(|found| {
-                contract(&found.function, &[])
-                    .map(|contract| (found.names.in_full(&contract.facts, &[]), contract.given))
+                let contract = contract(&found.function, &[])?;
+                let bound = [contract.given, contract.answers].concat();
+                Ok::<_, String>((found.names.in_full(&contract.facts, &bound), bound))
             });
-            if outside != within {
+            if outside != within || found.function.requires {
                 wrong.push(format!(
                     "{} has another contract than that of {}",
                     found.shown(),

@@ -509,7 +509,7 @@ impl<'a> Held<'a> {
     }
 }
 
-#[unsafe(no_mangle)]
+#[inline]
 pub extern \"C\" fn fill<'a>(line: &'a [u8], out: &mut [u64]) -> u32
     requires { 1 < 2 }
     ensures low { result ≡ record { a = 0 } }

@@ -23,19 +23,19 @@ const RENAMED: [(&str, &[Renamed]); 3] = [
     (
         "nmea_sentence",
         &[
-            ("r .talker", "t"),
-            ("r .kind", "k"),
-            ("r .checksum", "c"),
-            ("now (r .data)", "d"),
+            ("result.talker", "t"),
+            ("result.kind", "k"),
+            ("result.checksum", "c"),
+            ("result.data.now", "d"),
         ],
     ),
-    ("NmeaSentence::data", &[("self .entry .data", "data-held")]),
+    ("NmeaSentence::data", &[("self.entry.data", "data-held")]),
     (
         "NmeaSentence::calc_checksum",
         &[
-            ("self .entry .talker", "talker"),
-            ("self .entry .kind", "kind"),
-            ("now (self .entry .data)", "text"),
+            ("self.entry.talker", "talker"),
+            ("self.entry.kind", "kind"),
+            ("self.entry.data.now", "text"),
         ],
     ),
 ];
@@ -67,11 +67,22 @@ fn crates() -> (Vec<String>, Vec<String>) {
         .expect("crates.txt: no line `# programs`");
     let names = |part: &str| {
         part.lines()
-            .filter(|line| !line.starts_with('#'))
+            .filter(|line| !line.starts_with('#') && !line.contains(STATIC))
             .filter_map(|line| Some(line.split_once(':')?.0.to_owned()))
             .collect()
     };
     (names(libraries), names(programs))
+}
+
+/// What stands behind the name of a static library in crates.txt.
+const STATIC: &str = " staticlib:";
+
+/// The static libraries of crates.txt: what they export calls a function of
+/// the same name in the library that they are named after.
+fn static_libraries() -> Vec<String> {
+    let names = read("crates.txt");
+    let names = names.lines().filter_map(|line| line.split_once(STATIC));
+    names.map(|(name, _)| name.to_owned()).collect()
 }
 
 /// A public function of a library, and where it stands.
@@ -85,12 +96,12 @@ struct Found {
 
 impl Found {
     fn theorems_file(&self) -> String {
-        format!("crates/only/proofs/{}.antt", capital(&self.library))
+        format!("crates/only/proofs/{}.antt", theorems_of(&self.library))
     }
 
     /// As docs/CONTRACTS.md names it.
     fn theorem(&self) -> String {
-        format!("{}.{}", capital(&self.library), self.function.theorem())
+        format!("{}.{}", theorems_of(&self.library), self.function.theorem())
     }
 
     fn shown(&self) -> String {
@@ -98,14 +109,24 @@ impl Found {
     }
 }
 
-fn capital(name: &str) -> String {
+/// The file of `crates/only` that has the theorems of a library.
+fn theorems_of(library: &str) -> String {
+    let name = match library {
+        "intake" => "core",
+        "logs" => "log",
+        name => name,
+    };
     let (first, rest) = name.split_at(1);
     first.to_uppercase() + rest
 }
 
 fn public_functions() -> Vec<Found> {
+    functions_of(crates().0)
+}
+
+fn functions_of(libraries: Vec<String>) -> Vec<Found> {
     let mut found = vec![];
-    for library in crates().0 {
+    for library in libraries {
         // every file, so that a folder in there is not passed over
         for name in files(&format!("crates/{library}/src"), "") {
             let file = format!("crates/{library}/src/{name}");
@@ -174,7 +195,7 @@ fn every_contract_says_that_lent_bytes_are_unchanged() {
         for parameter in found.function.parameters.iter().filter(|p| p.lent) {
             lent += 1;
             let name = &parameter.name;
-            let unchanged = format!("now ({name} .exit) ≡ now ({name} .entry)");
+            let unchanged = format!("{name}.now ≡ {name}.now");
             if !said.contains(&unchanged) {
                 wrong.push(format!(
                     "{}: expected `{unchanged}` in its `ensures`",
@@ -184,6 +205,37 @@ fn every_contract_says_that_lent_bytes_are_unchanged() {
         }
     }
     assert!(lent > 0, "no public function is lent anything");
+    all_agree(wrong);
+}
+
+#[test]
+fn what_is_exported_has_the_contract_of_what_it_calls() {
+    let inside = public_functions();
+    let (mut wrong, mut compared) = (vec![], 0);
+    for library in static_libraries() {
+        for found in functions_of(vec![library]) {
+            let name = &found.function.name;
+            let called = inside.iter().find(|found| found.function.name == *name);
+            let Some(called) = called else {
+                wrong.push(format!("{}: no library has `{name}`", found.shown()));
+                continue;
+            };
+            compared += 1;
+            let [outside, within] = [&found, called].map(|found| {
+                let contract = contract(&found.function, &[])?;
+                let bound = [contract.given, contract.answers].concat();
+                Ok::<_, String>((found.names.in_full(&contract.facts, &bound), bound))
+            });
+            if outside != within || found.function.requires {
+                wrong.push(format!(
+                    "{} has another contract than that of {}",
+                    found.shown(),
+                    called.shown()
+                ));
+            }
+        }
+    }
+    assert!(compared > 0, "no static library exports a function");
     all_agree(wrong);
 }
 
@@ -445,22 +497,23 @@ fn functions_are_found() {
 // pub fn in_a_comment() {}
 pub(crate) fn not_public() {}
 fn private(x: u8)
-    requires { ⌜ x < 9 ⌝ }
+    requires { x < 9 }
 {
 }
 
 impl<'a> Held<'a> {
     pub fn data(self) -> &'a [u8]
-        ensures { λ r. ⌜ r ≡ self .entry .data ⌝ }
+        ensures { result ≡ self.data }
     {
         self.data
     }
 }
 
-#[no_mangle]
+#[inline]
 pub extern \"C\" fn fill<'a>(line: &'a [u8], out: &mut [u64]) -> u32
-    requires { ⌜ 1 < 2 ⌝ }
-    ensures { λ r. ⌜ r ≡ record { a = 0 } ⌝ }
+    requires { 1 < 2 }
+    ensures low { result ≡ record { a = 0 } }
+    ensures high { result ≤ 1 }
 {
     if line[0] == b'{' { 1 } else { 0 }
 }
@@ -488,13 +541,13 @@ pub fn bare_one() -> u8 {
                 "Held::data",
                 "Held-data".to_owned(),
                 false,
-                Some("λ r. ⌜ r ≡ self .entry .data ⌝")
+                Some("result ≡ self.data")
             ),
             (
                 "fill",
                 "fill".to_owned(),
                 true,
-                Some("λ r. ⌜ r ≡ record { a = 0 } ⌝")
+                Some("result ≡ record { a = 0 } × result ≤ 1")
             ),
             ("bare_one", "bare-one".to_owned(), false, None),
         ]
@@ -518,34 +571,34 @@ pub fn bare_one() -> u8 {
 fn contracts_are_brought_to_the_words_of_theorems() {
     for (clause, parts, expected, answers) in [
         (
-            "Reads (now (s .entry)) at (char b) (next r) × (now (s .exit) ≡ now (s .entry))",
+            "Reads s.now at (char b) (next result) × (s.now ≡ s.now)",
             &[][..],
             "Reads s at ( char b ) ( next r )",
             &["r"][..],
         ),
         (
-            "(now r ≡ f (now (s .entry))) × (now (s .exit) ≡ now (s .entry))",
+            "(result.now ≡ f s.now) × (s.now ≡ s.now)",
             &[],
             "r ≡ f s",
             &["r"],
         ),
         (
-            "Filled (now (s .entry)) (now (out .entry)) (now (out .exit)) r",
+            "Filled s.now out.old out.new result",
             &[],
             "Filled s out l r",
             &["l", "r"],
         ),
         (
-            "(r .a ≡ at) × (now (r .b) ≡ f (now (s .entry)))",
-            &[("r .a", "x"), ("now (r .b)", "y")],
+            "(result.a ≡ at) × (result.b.now ≡ f s.now)",
+            &[("result.a", "x"), ("result.b.now", "y")],
             "x ≡ at × y ≡ f s",
             &["x", "y"],
         ),
         // what is lent and comes back otherwise is said
         (
-            "(r ≡ at) × (now (s .exit) ≡ f (now (s .entry)))",
+            "(result ≡ at) × (s.now ≡ f s.now)",
             &[],
-            "r ≡ at × now ( s .exit ) ≡ f s",
+            "r ≡ at × s ≡ f s",
             &["r"],
         ),
     ] {
@@ -553,7 +606,7 @@ fn contracts_are_brought_to_the_words_of_theorems() {
         if !clause.contains("out") {
             function.parameters.pop();
         }
-        function.ensures = Some(format!("λ r. ⌜ {clause} ⌝"));
+        function.ensures = Some(clause.into());
         let contract = contract(&function, parts).expect(clause);
         assert_eq!(shown(&contract.facts), expected);
         assert_eq!(contract.answers, answers, "{clause}");
@@ -563,13 +616,13 @@ fn contracts_are_brought_to_the_words_of_theorems() {
 /// What a theorem has otherwise than a contract of `f`.
 fn differ(theorem: &str) -> Vec<String> {
     let code = "\
-ghost use Rattle·a·specs.specs.Spec.{f, g};
+ghost use Rattle.a.specs.Spec.{f, g};
 pub fn f(s: &[u8], at: usize) -> u8
-    ensures { λ r. ⌜ (r ≡ f (now (s .entry)) at) × (now (s .exit) ≡ now (s .entry)) ⌝ }
+    ensures { (result ≡ f s.now at) × (s.now ≡ s.now) }
 {
 ";
     let source = format!(
-        "use Rattle·a.specs.Spec as Spec\nuse Rattle·b.specs.Spec as Other\n\n{theorem}\nf s at = same\n"
+        "use Rattle.a.specs.Spec as Spec\nuse Rattle.b.specs.Spec as Other\n\n{theorem}\nf s at = same\n"
     );
     let statement = statement(&source, "f").expect(theorem).expect(theorem);
     let contract = contract(&one(code), &[]).expect(code);

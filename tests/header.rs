@@ -1,4 +1,4 @@
-//! include/nmea.h compiles as C, and declares what the crate `capi` exports.
+//! include/nmea.h compiles as C, and declares what the crate `capi_c` exports.
 
 mod repository;
 
@@ -150,91 +150,91 @@ const PARTS: &str = "crates/words/specs/Part.antt";
 const IN_DEFINITIONS: [(&str, &str, &str, &str, &str); 13] = [
     (
         PARTS,
-        "timeWords (some t) = 1 ∷ t .hour ∷ t .minute ∷ t .second ∷ t .nanosecond ∷ []",
+        "time_words (some t) = 1 ∷ t.hour ∷ t.minute ∷ t.second ∷ t.nanosecond ∷ []",
         "NMEA_TIME_",
         "",
         "- HOUR MINUTE SECOND NANOSECOND",
     ),
     (
         PARTS,
-        "dateWords (some d) = 1 ∷ d .year ∷ d .month ∷ d .day ∷ []",
+        "date_words (some d) = 1 ∷ d.year ∷ d.month ∷ d.day ∷ []",
         "NMEA_DATE_",
         "",
         "- YEAR MONTH DAY",
     ),
     (
         PARTS,
-        "signedWords z = sign z ∷ natAbs z ∷ []",
+        "signed_words z = sign z ∷ nat_abs z ∷ []",
         "NMEA_COORDINATE_",
         "",
         "SIGN SIZE",
     ),
     (
         PARTS,
-        "coordinateWords p = signedWords (p .count) ++ (p .letter ∷ bits64 (p .degrees) ∷ [])",
+        "coordinate_words p = signed_words p.count ++ (p.letter ∷ bits64 p.degrees ∷ [])",
         "NMEA_COORDINATE_",
         "",
         "SIGN SIZE LETTER DEGREES",
     ),
     (
         PARTS,
-        "positionWords (some p) = 1 ∷ (coordinateWords (p .lat) ++ coordinateWords (p .lon))",
+        "position_words (some p) = 1 ∷ (coordinate_words p.lat ++ coordinate_words p.lon)",
         "NMEA_RMC_",
         "POSITION",
         "- LATITUDE - - - LONGITUDE - - -",
     ),
     (
         PARTS,
-        "positionWords (some p) = 1 ∷ (coordinateWords (p .lat) ++ coordinateWords (p .lon))",
+        "position_words (some p) = 1 ∷ (coordinate_words p.lat ++ coordinate_words p.lon)",
         "NMEA_GGA_",
         "POSITION",
         "- LATITUDE - - - LONGITUDE - - -",
     ),
     (
         "crates/words/specs/Gll.antt",
-        "fieldWords g = positionWords (g .position) ++ (timeWords (g .time) ++ (g .status ∷ Option·getD (g .mode) 0 ∷ []))",
+        "field_words g = position_words g.position ++ (time_words g.time ++ (g.status ∷ get_or g.mode 0 ∷ []))",
         "NMEA_GLL_",
         "POSITION",
         "- LATITUDE - - - LONGITUDE - - - - - - - - - MODE",
     ),
     (
         PARTS,
-        "dopWords d = signedWords (d .whole) ++ (d .decimals ∷ bits32 (d .value) ∷ [])",
+        "dop_words d = signed_words d.whole ++ (d.decimals ∷ bits32 d.value ∷ [])",
         "NMEA_DOP_",
         "",
         "SIGN SIZE DECIMALS VALUE",
     ),
     (
         PARTS,
-        "shortWords (some d) = 1 ∷ dopWords d",
+        "short_words (some d) = 1 ∷ dop_words d",
         "NMEA_DECIMAL_",
         "",
         "- SIGN SIZE DECIMALS VALUE",
     ),
     (
         "crates/words/specs/Vtg.antt",
-        "speedWords (some s) = 1 ∷ s .unit ∷ (dopWords (s .written) ++ (bits32 (s .knots) ∷ []))",
+        "speed_words (some s) = 1 ∷ s.unit ∷ (dop_words s.written ++ (bits32 s.knots ∷ []))",
         "NMEA_SPEED_",
         "",
         "- UNIT SIGN SIZE DECIMALS VALUE KNOTS",
     ),
     (
         PARTS,
-        "dopsWords (some d) = 1 ∷ (dopWords (d .pdop) ++ (dopWords (d .hdop) ++ dopWords (d .vdop)))",
+        "dops_words (some d) = 1 ∷ (dop_words d.pdop ++ (dop_words d.hdop ++ dop_words d.vdop))",
         "NMEA_GSA_",
         "DOPS",
         "- PDOP - - - HDOP - - - VDOP - - -",
     ),
     (
         PARTS,
-        "optionWords (some n) = 1 ∷ n ∷ []",
+        "option_words (some n) = 1 ∷ n ∷ []",
         "NMEA_OPTION_",
         "",
         "- NUMBER",
     ),
     (
         "crates/gather/specs/Words.antt",
-        "cellWords s = s .id ∷ wordOf (s .elevation) ∷ wordOf (s .azimuth) ∷ wordOf (s .signal) ∷ []",
+        "cell_words s = s.id ∷ word_of s.elevation ∷ word_of s.azimuth ∷ word_of s.signal ∷ []",
         "NMEA_CELL_",
         "",
         "SATELLITE ELEVATION AZIMUTH SIGNAL",
@@ -265,7 +265,7 @@ fn systems() -> Vec<(String, u64)> {
     let definitions = read("crates/gsv/specs/Talker.antt");
     let numbers = definitions
         .lines()
-        .filter_map(|line| line.strip_prefix("systemNumber ")?.split_once(" = "));
+        .filter_map(|line| line.strip_prefix("system_number ")?.split_once(" = "));
     numbers
         .map(|(system, number)| {
             let name = format!("NMEA_{}", system.to_uppercase());
@@ -330,7 +330,7 @@ fn every_constant_is_on_a_page() {
 #[test]
 fn every_exported_function_is_declared_and_called() {
     let mut exported = vec![];
-    for file in fs::read_dir(root().join("crates/capi/src")).expect("crates/capi/src") {
+    for file in fs::read_dir(root().join("crates/capi_c/src")).expect("crates/capi_c/src") {
         let source = fs::read_to_string(file.expect("a file").path()).expect("a source");
         for rest in source.split("pub extern \"C\" fn ").skip(1) {
             let name = rest.split('(').next().unwrap_or_default();
@@ -339,7 +339,7 @@ fn every_exported_function_is_declared_and_called() {
     }
     assert!(
         !exported.is_empty(),
-        "no exported function in crates/capi/src"
+        "no exported function in crates/capi_c/src"
     );
     for name in exported.into_iter().chain(declared()) {
         for (file, expected) in [

@@ -46,10 +46,12 @@ fn defined(source: &str) -> BTreeSet<&str> {
         .collect()
 }
 
-/// All files below a folder, or the file itself.
+/// All files below a folder, but for what the prover keeps in a crate's
+/// `out`, or the file itself.
 fn files(path: &Path) -> Vec<PathBuf> {
     match fs::read_dir(path) {
         Err(_) => vec![path.to_owned()],
+        Ok(_) if path.ends_with("out") => vec![],
         Ok(entries) => entries
             .flat_map(|entry| files(&entry.expect("an entry").path()))
             .collect(),

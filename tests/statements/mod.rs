@@ -10,7 +10,7 @@ pub struct Function {
     pub name: String,
     pub parameters: Vec<Parameter>,
     pub requires: bool,
-    /// What stands in the braces of `ensures`.
+    /// What stands in the braces of `ensures`; of several, one behind the other.
     pub ensures: Option<String>,
 }
 
@@ -116,14 +116,24 @@ fn declared(text: &str) -> Option<Function> {
     let mut rest = &text[close + 1..];
     loop {
         let open = rest.find('{')?;
-        let clause = rest[..open].split_whitespace().last().unwrap_or_default();
-        if !["requires", "ensures", "decreases"].contains(&clause) {
+        // a clause may have a name of its own
+        let clause = rest[..open].split_whitespace().rev().take(2);
+        let Some(clause) = clause
+            .into_iter()
+            .find(|word| ["requires", "ensures", "decreases"].contains(word))
+        else {
             return Some(function);
-        }
+        };
         let close = open + closing(&rest[open..])?;
+        let said = rest[open + 1..close].trim();
         match clause {
             "requires" => function.requires = true,
-            "ensures" => function.ensures = Some(rest[open + 1..close].trim().into()),
+            "ensures" => {
+                function.ensures = Some(match function.ensures {
+                    Some(before) => format!("{before} × {said}"),
+                    None => said.into(),
+                })
+            }
             _ => {}
         }
         rest = &rest[close + 1..];
@@ -275,21 +285,13 @@ pub struct Contract {
 /// What is written holds after the call, the first and the second; what it held before has its own name.
 const AFTER: [&str; 2] = ["l", "t"];
 
+/// The theorem's name for the answer.
+const ANSWER: &str = "r";
+
 pub fn contract(function: &Function, renamed: &[Renamed]) -> Result<Contract, String> {
     let ensures = function.ensures.as_deref().ok_or("has no `ensures`")?;
-    let (answer, said) = ensures
-        .strip_prefix('λ')
-        .and_then(|rest| rest.split_once('.'))
-        .ok_or("its `ensures` is not `λ r. ⌜ .. ⌝`")?;
-    let said = said
-        .trim()
-        .strip_prefix('⌜')
-        .and_then(|rest| rest.strip_suffix('⌝'))
-        .filter(|rest| !rest.contains(['⌜', '⌝']))
-        .ok_or("its `ensures` is not `λ r. ⌜ .. ⌝`")?;
-    let answer = answer.trim();
 
-    let mut said = words(said);
+    let mut said = words(ensures);
     // What is lent comes back as it was: no fact about the answer.
     let kept: Vec<Words> = split_words(&said, "×")
         .into_iter()
@@ -301,33 +303,35 @@ pub fn contract(function: &Function, renamed: &[Renamed]) -> Result<Contract, St
     let mut answers: Vec<String> = vec![];
     let mut after = AFTER.iter();
     for (part, name) in renamed {
-        let part = words(part);
-        said = replaced(&said, &part, name);
-        if part.iter().any(|word| word == answer) {
+        said = replaced(&said, &words(part), name);
+        if is_of(part, "result") {
             answers.push((*name).to_owned());
         }
     }
     for Parameter { name, written, .. } in &function.parameters {
         let parts: Vec<&Renamed> = renamed
             .iter()
-            .filter(|(part, _)| words(part).contains(name))
+            .filter(|(part, _)| is_of(part, name))
             .collect();
         if !parts.is_empty() {
             given.extend(parts.iter().map(|(_, new)| (*new).to_owned()));
             continue;
         }
-        said = replaced(&said, &words(&format!("now ({name} .entry)")), name);
+        let before = if *written { "old" } else { "now" };
+        said = replaced(&said, &words(&format!("{name}.{before}")), name);
         given.push(name.to_owned());
         if *written {
             let after = after.next().ok_or("it writes more than two slices")?;
-            said = replaced(&said, &words(&format!("now ({name} .exit)")), after);
+            said = replaced(&said, &words(&format!("{name}.new")), after);
             answers.push((*after).to_owned());
         }
     }
     // Of a part of the lent bytes the contract fixes the bytes.
-    said = replaced(&said, &words(&format!("now {answer}")), answer);
-    if said.iter().any(|word| word == answer) {
-        answers.push(answer.to_owned());
+    for answer in ["result.now", "result"] {
+        said = replaced(&said, &words(answer), ANSWER);
+    }
+    if said.iter().any(|word| word == ANSWER) {
+        answers.push(ANSWER.to_owned());
     }
     Ok(Contract {
         facts: facts(&said),
@@ -336,15 +340,18 @@ pub fn contract(function: &Function, renamed: &[Renamed]) -> Result<Contract, St
     })
 }
 
-/// `now (x .exit) ≡ now (x .entry)`, of `x` or of what it holds.
+/// Whether it is the name, or a part of what has the name.
+fn is_of(part: &str, name: &str) -> bool {
+    part.split('.').next() == Some(name)
+}
+
+/// `x.now ≡ x.now`, or `x.exit.y.now ≡ x.entry.y.now` of what it holds.
 fn comes_back(fact: &[String]) -> bool {
     let sides = split_words(&bare(fact), "≡");
-    let [after, before] = &sides[..] else {
+    let [[after], [before]] = [&sides[0][..], sides.get(1).map_or(&[], |side| &side[..])] else {
         return false;
     };
-    after.iter().any(|word| word == ".exit")
-        && after.first().is_some_and(|word| word == "now")
-        && replaced(after, &[".exit".to_owned()], ".entry") == *before
+    after.ends_with(".now") && after.replace(".exit.", ".entry.") == *before
 }
 
 /// What a theorem of `crates/only` states.
@@ -469,12 +476,9 @@ pub fn names(source: &str) -> Names {
         let Some(path) = line.strip_prefix("use ") else {
             continue;
         };
-        // The code's side of a crate and the theorems' side write the path of its definitions otherwise.
-        let path = path
-            .trim()
-            .trim_end_matches(';')
-            .replace("·specs.specs.", ".specs.");
+        let path = path.trim().trim_end_matches(';');
         if let Some((module, list)) = path.split_once(".{") {
+            let module = handed_on(module);
             for item in list.trim_end_matches('}').split(',') {
                 let (name, here) = item.split_once(" as ").unwrap_or((item, item));
                 found
@@ -486,6 +490,28 @@ pub fn names(source: &str) -> Names {
         }
     }
     found
+}
+
+/// The library hands the same words on by several modules, code and theorems take them from others.
+fn handed_on(module: &str) -> &str {
+    let same = [
+        "Rattle.std.specs.Prelude",
+        "Rattle.std.specs.Float",
+        "Rattle.std.proofs.Common",
+        "Rattle.std.proofs.Math",
+        "mathlib.Core",
+        "lib",
+    ];
+    let is_in = |of: &&str| {
+        module
+            .strip_prefix(*of)
+            .is_some_and(|rest| rest.is_empty() || rest.starts_with('.'))
+    };
+    if same.iter().any(|of| is_in(&of)) {
+        "library"
+    } else {
+        module
+    }
 }
 
 impl Names {

@@ -1,5 +1,4 @@
 -- A read that brings bytes goes on where the one before it ended.
-use Rattle.std.proofs.Common.{rules}
 use Rattle.nmea_log.proofs.Behind.{behind}
 use Rattle.nmea_log.proofs.read_log.Goals as goal
 

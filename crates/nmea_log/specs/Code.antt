@@ -3,6 +3,8 @@ use Rattle.std.specs.Prelude.{ℕ, ◌+◌, ◌≤◌, ◌<◌, List, [], Option
 use Rattle.std.specs.Io.KnownBytes.{Consumes, IsAtEnd, Keeps}
 use Rattle.nmea_log.specs.declared.Got.{Got}
 use Rattle.nmea_log.specs.declared.Got.TheVariants.{More, End, Failed as Fails}
+use Rattle.nmea_log.specs.declared.Failure.{Failure}
+use Rattle.nmea_log.specs.declared.Failure.TheVariants.{Input, Output}
 use Rattle.nmea_log.specs.declared.Filled as Code
 use Rattle.nmea_log.specs.declared.Filled.TheVariants.{Is, Failed}
 
@@ -27,3 +29,8 @@ Takes done (Fails why) space old new = Keeps old new
 abbrev pub Reads : Code.Filled → List ℕ → Option (List ℕ) → Option (List ℕ) → Type 0
 Reads (Is n) space old new = Consumes old new (take n space) × (n < length space → IsAtEnd new)
 Reads (Failed why) space old new = Unit {0}
+
+-- where a read failed, nothing is written
+abbrev pub TellsNothing : Failure → Option (List ℕ) → Option (List ℕ) → Type 0
+TellsNothing (Input why) old new = Keeps old new
+TellsNothing (Output why) old new = Unit {0}

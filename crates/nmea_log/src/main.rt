@@ -1,8 +1,12 @@
 // Counts a log that it reads from standard input: its lines, of these blank, accepted and refused, and its satellite groups.
 #![tactic(auto)]
 
-ghost use Rattle.std.specs.Prelude.{◌≡◌, take};
-ghost use Rattle.nmea_log.specs.Code.{Brings, Fits, Reads, Takes};
+ghost use Rattle.std.specs.Prelude.{◌≡◌, take, IfErr, IfSome, OnOk};
+ghost use Rattle.std.specs.Io.KnownBytes.{Appends};
+ghost use Rattle.frame.specs.Answer.{refused};
+ghost use Rattle.logs.specs.Walk.{barred, went};
+ghost use Rattle.nmea_log.specs.Code.{Brings, Fits, Reads, Takes, TellsNothing};
+ghost use Rattle.nmea_log.specs.Told.{told, told_of};
 
 use frame::Refusal;
 use logs::walk::{Counts, Walked, totals};
@@ -71,7 +75,9 @@ fn read_log<R: Read>(input: &mut R, space: &mut [u8]) -> Filled
     }
 }
 
-fn print_counts<W: Write>(out: &mut W, c: Counts) -> io::Result<()> {
+fn print_counts<W: Write>(out: &mut W, c: Counts) -> io::Result<()>
+    ensures { OnOk result (Appends (W.contents out.old) (W.contents out.new) (told (went c))) }
+{
     writeln!(
         out,
         "lines {} blank {} accepted {} refused {} groups {}",
@@ -79,15 +85,42 @@ fn print_counts<W: Write>(out: &mut W, c: Counts) -> io::Result<()> {
     )
 }
 
-fn print_refusal<W: Write>(out: &mut W, why: Refusal) -> io::Result<()> {
+fn print_refusal<W: Write>(out: &mut W, why: Refusal) -> io::Result<()>
+    ensures { OnOk result (Appends (W.contents out.old) (W.contents out.new) (told (barred (refused why)))) }
+{
     writeln!(out, "refused {}", why.number())
 }
 
 // The totals of a log, or its refusal, on a line.
-fn tell<W: Write>(out: &mut W, log: &[u8]) -> io::Result<()> {
+fn tell<W: Write>(out: &mut W, log: &[u8]) -> io::Result<()>
+    ensures { OnOk result (Appends (W.contents out.old) (W.contents out.new) (told_of log.now)) }
+{
     match totals(log) {
         Walked::Refused(why) => print_refusal(out, why),
         Walked::Went(c) => print_counts(out, c),
+    }
+}
+
+// Where a run failed, and why.
+#[derive(Drop)]
+enum Failure {
+    Input(io::Error),
+    Output(io::Error),
+}
+
+// Reads a log and tells it. One that was not read whole is not counted.
+fn count<R: Read, W: Write>(input: &mut R, out: &mut W) -> Result<(), Failure>
+    ensures told { OnOk result (IfSome (R.remaining input.old) (λ log. Appends (W.contents out.old) (W.contents out.new) (told_of log))) }
+    ensures unread { IfErr result (λ e. TellsNothing e (W.contents out.old) (W.contents out.new)) }
+{
+    let mut space = [0u8; SPACE];
+    let n = match read_log(input, &mut space) {
+        Filled::Is(n) => n,
+        Filled::Failed(why) => return Err(Failure::Input(why)),
+    };
+    match tell(out, &space[..n]) {
+        Ok(()) => Ok(()),
+        Err(why) => Err(Failure::Output(why)),
     }
 }
 
@@ -98,15 +131,10 @@ fn fail(rt: &impl Eprint, what: &str, why: io::Error) -> ExitCode {
     ExitCode::FAILURE
 }
 
-// What failed is told on standard error, and a log that was not read whole is not counted.
 fn main(rt: HostRuntime) -> ExitCode {
-    let mut space = [0u8; SPACE];
-    let n = match read_log(&mut rt.stdin(), &mut space) {
-        Filled::Is(n) => n,
-        Filled::Failed(why) => return fail(&rt, "standard input", why),
-    };
-    match tell(&mut rt.stdout(), &space[..n]) {
+    match count(&mut rt.stdin(), &mut rt.stdout()) {
         Ok(()) => ExitCode::SUCCESS,
-        Err(why) => fail(&rt, "standard output", why),
+        Err(Failure::Input(why)) => fail(&rt, "standard input", why),
+        Err(Failure::Output(why)) => fail(&rt, "standard output", why),
     }
 }

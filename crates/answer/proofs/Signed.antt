@@ -66,7 +66,7 @@ rows =
     )
     ∷ (
       bytes "$GPRMC,,A,00-0,N,000-6.0,W,,,,,*17",
-      with (some (record { lat = at (pos 0) (byte "N") 0; lon = at (pos 6000000000) (byte "W") 0x3_fB999999999999_a })) none none none,
+      with (some (record { lat = at (pos 0) (byte "N") 0; lon = at (pos 6000000000) (byte "W") 0x3FB999999999999A })) none none none,
     )
     -- seconds have none: Syntax, behind Number
     ∷ (bytes "$GPRMC,0000-0,A,,,,,,,,,*3B", is_refused syntax_error)

@@ -46,7 +46,7 @@ short n k b = record { whole = pos n; decimals = k; value = of_bits binary32 b }
 abbrev london : LatLon
 london =
     record {
-      lat = record { count = pos 3090500000000; letter = byte "N"; degrees = of_bits binary64 0x4049_c11111111111 };
+      lat = record { count = pos 3090500000000; letter = byte "N"; degrees = of_bits binary64 0x4049C11111111111 };
       lon = record { count = neg_ℤ (pos 6000000000); letter = byte "W"; degrees = of_bits binary64 0xBFB999999999999A };
     }
 
@@ -102,7 +102,7 @@ rows = (
               mode = byte "A";
               fix = byte "3";
               satellites = 16 ∷ 18 ∷ 22 ∷ 24 ∷ [];
-              dops = some (record { pdop = short 36 1 0x40666666; hdop = short 21 1 0x40066666; vdop = short 22 1 0x400_cCCCD });
+              dops = some (record { pdop = short 36 1 0x40666666; hdop = short 21 1 0x40066666; vdop = short 22 1 0x400CCCCD });
               system = some 1;
             };
           }),
@@ -148,16 +148,16 @@ rows = (
                 time = some (record { hour = 12; minute = 35; second = 19; nanosecond = 0 });
                 position = some
                     (record {
-                      lat = record { count = pos 2887038000000; letter = byte "N"; degrees = of_bits binary64 0x40480_f03_aFB7_e910 };
-                      lon = record { count = pos 691324000000; letter = byte "E"; degrees = of_bits binary64 0x40270_b4_c52775484 };
+                      lat = record { count = pos 2887038000000; letter = byte "N"; degrees = of_bits binary64 0x40480F03AFB7E910 };
+                      lon = record { count = pos 691324000000; letter = byte "E"; degrees = of_bits binary64 0x40270B4C52775484 };
                     });
                 quality = byte "1";
                 satellites = some 8;
               };
               height = record {
-                hdop = some (short 9 1 0x3_f666666);
-                altitude = some (short 5454 1 0x4408599_a);
-                geoid = some (short 469 1 0x423_b999_a);
+                hdop = some (short 9 1 0x3F666666);
+                altitude = some (short 5454 1 0x4408599A);
+                geoid = some (short 469 1 0x423B999A);
               };
             };
           }),
@@ -187,7 +187,7 @@ rows = (
       bytes "$GPVTG,360.0,T,348.7,M,000.0,N,000.0,K*43",
       of_vtg
           (record {
-            course = some (short 3600 1 0x43_b40000);
+            course = some (short 3600 1 0x43B40000);
             speed = some (record { written = short 0 1 0; unit = byte "N"; knots = of_bits binary32 0 });
           }),
     )
@@ -195,15 +195,15 @@ rows = (
       bytes "$GPVTG,054.7,T,034.4,M,005.5,N,010.2,K*48",
       of_vtg
           (record {
-            course = some (short 547 1 0x425_aCCCD);
-            speed = some (record { written = short 55 1 0x40_b00000; unit = byte "N"; knots = of_bits binary32 0x40_b00000 });
+            course = some (short 547 1 0x425ACCCD);
+            speed = some (record { written = short 55 1 0x40B00000; unit = byte "N"; knots = of_bits binary32 0x40B00000 });
           }),
     )
     ∷ (bytes "$GPVTG,t,T,,,s.ss,N,s.ss,K*77", is_refused bad_number)
     -- behind the N, or in its place, a speed is in kilometres an hour; the magnetic course must be a decimal, though it is not kept
     ∷ (
       bytes "$GPVTG,,,,,,N1,*01",
-      of_vtg (record { course = none; speed = some (record { written = short 1 0 0x3_f800000; unit = byte "K"; knots = of_bits binary32 0x3_f0_a3_a9_c }) }),
+      of_vtg (record { course = none; speed = some (record { written = short 1 0 0x3F800000; unit = byte "K"; knots = of_bits binary32 0x3F0A3A9C }) }),
     )
     ∷ (bytes "$GPVTG,,,1e5,,,,*1F", is_refused bad_number)
     ∷ []

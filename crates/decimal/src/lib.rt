@@ -281,18 +281,18 @@ pub fn long_decimal(s: &[u8], at: usize) -> LongAt
 
 // The bits of an f32; of a NaN, which no decimal is, those of the quiet one.
 pub fn bits_f32(x: f32) -> u32
-    ensures { result ≡ bits_of binary32 0x7_fC00000 x }
+    ensures { result ≡ bits_of binary32 0x7FC00000 x }
 {
-    if x == x { f32::to_bits(x) } else { 0x7_fC00000 }
+    if x == x { f32::to_bits(x) } else { 0x7FC00000 }
 }
 
 // The bits of an f64; of a NaN, which no decimal is, those of the quiet one.
 pub fn bits_f64(x: f64) -> u64
-    ensures { result ≡ bits_of binary64 0x7_fF8000000000000 x }
+    ensures { result ≡ bits_of binary64 0x7FF8000000000000 x }
 {
     if x == x {
         f64::to_bits(x)
     } else {
-        0x7_fF8000000000000
+        0x7FF8000000000000
     }
 }

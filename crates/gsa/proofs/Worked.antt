@@ -27,7 +27,7 @@ tenths n b = record { whole = pos n; decimals = 1; value = of_bits binary32 b }
 
 -- the three dilutions 3.6, 2.1 and 2.2
 abbrev dilutions : Option Dops
-dilutions = some (record { pdop = tenths 36 0x40666666; hdop = tenths 21 0x40066666; vdop = tenths 22 0x400_cCCCD })
+dilutions = some (record { pdop = tenths 36 0x40666666; hdop = tenths 21 0x40066666; vdop = tenths 22 0x400CCCCD })
 
 -- a sentence of the mode A
 abbrev automatic : ℕ → List ℕ → Option Dops → Option ℕ → Value Gsa

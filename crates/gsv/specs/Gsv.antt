@@ -2,7 +2,7 @@
 --
 --     3,1,11,03,03,111,00,04,15,270,00,06,01,010,00,13,06,292,00
 --     | | |  |  |  |   |  `- three entries more, like the first
---     | | |  |  |  |   `- signal strength, in d_b, if it is known
+--     | | |  |  |  |   `- signal strength, in dB, if it is known
 --     | | |  |  |  `- azimuth, in degrees from true north
 --     | | |  |  `- elevation, in degrees
 --     | | |  `- the satellite

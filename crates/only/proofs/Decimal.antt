@@ -54,8 +54,8 @@ short-decimal s at x y = undone short_at short-at short-at-is (reads x y)
 pub long-decimal : (s : List ℕ) (at : ℕ) {r q : LongAt} → Reads s at long_decimal (long_at r) → Reads s at long_decimal (long_at q) → r ≡ q
 long-decimal s at x y = undone long_at long-at long-at-is (reads x y)
 
-pub bits-f32 : (x : Float) {r q : ℕ} → r ≡ bits_of binary32 0x7_fC00000 x → q ≡ bits_of binary32 0x7_fC00000 x → r ≡ q
+pub bits-f32 : (x : Float) {r q : ℕ} → r ≡ bits_of binary32 0x7FC00000 x → q ≡ bits_of binary32 0x7FC00000 x → r ≡ q
 bits-f32 x = same
 
-pub bits-f64 : (x : Float) {r q : ℕ} → r ≡ bits_of binary64 0x7_fF8000000000000 x → q ≡ bits_of binary64 0x7_fF8000000000000 x → r ≡ q
+pub bits-f64 : (x : Float) {r q : ℕ} → r ≡ bits_of binary64 0x7FF8000000000000 x → q ≡ bits_of binary64 0x7FF8000000000000 x → r ≡ q
 bits-f64 x = same

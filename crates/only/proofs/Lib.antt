@@ -14,6 +14,6 @@ pub mod Vtg
 pub mod Sentence
 pub mod Words
 pub mod Gather
-pub mod Core
-pub mod Log
+pub mod Intake
+pub mod Logs
 pub mod Capi

@@ -13,8 +13,8 @@ state-of : State → Utf8
 state-of none = Broken
 state-of (some []) = Whole
 state-of (some (r ∷ [])) = Tail1
-state-of (some (r ∷ s ∷ [])) = cond (eqb r.0 0xA0) AfterE0 (cond (eqb r.1 0x9_f) AfterED Tail2)
-state-of (some (r ∷ s ∷ t ∷ l)) = cond (eqb r.0 0x90) AfterF0 (cond (eqb r.1 0x8_f) AfterF4 Tail3)
+state-of (some (r ∷ s ∷ [])) = cond (eqb r.0 0xA0) AfterE0 (cond (eqb r.1 0x9F) AfterED Tail2)
+state-of (some (r ∷ s ∷ t ∷ l)) = cond (eqb r.0 0x90) AfterF0 (cond (eqb r.1 0x8F) AfterF4 Tail3)
 
 state-is : (r : Utf8) → state-of (pending r) ≡ r
 unfolding state-of

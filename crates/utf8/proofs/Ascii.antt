@@ -20,7 +20,7 @@ ascii-whole [] e = refl
 ascii-whole (b ∷ l) e =
     let w = (and-eq-true_iff (ltb b 0x80) (ascii l)).0 e in
     let low = ltb-true b 0x80 w.0 in
-    rw (regional 0x00 0x7_f utf8_char b refl (omega arith) (omega arith)) (ascii-whole l w.1)
+    rw (regional 0x00 0x7F utf8_char b refl (omega arith) (omega arith)) (ascii-whole l w.1)
 
 -- an ASCII text is valid
 pub ascii-utf8 : (l : List ℕ) → ascii l ≡ true → utf8 l ≡ true

@@ -17,8 +17,8 @@ abbrev named : State → Utf8
 named none = Broken
 named (some []) = Whole
 named (some (r ∷ [])) = Tail1
-named (some (r ∷ q ∷ [])) = cond (eqb r.0 0xA0) AfterE0 (cond (eqb r.1 0x9_f) AfterED Tail2)
-named (some (r ∷ q ∷ p ∷ rs)) = cond (eqb r.0 0x90) AfterF0 (cond (eqb r.1 0x8_f) AfterF4 Tail3)
+named (some (r ∷ q ∷ [])) = cond (eqb r.0 0xA0) AfterE0 (cond (eqb r.1 0x9F) AfterED Tail2)
+named (some (r ∷ q ∷ p ∷ rs)) = cond (eqb r.0 0x90) AfterF0 (cond (eqb r.1 0x8F) AfterF4 Tail3)
 
 named-pending : (u : Utf8) → named (pending u) ≡ u
 named-pending Whole = refl
@@ -78,9 +78,9 @@ step-state Tail1 b = tail-state (within utf8_tail b) Whole
 step-state Tail2 b = tail-state (within utf8_tail b) Tail1
 step-state Tail3 b = tail-state (within utf8_tail b) Tail2
 step-state AfterE0 b = tail-state (within (0xA0, 0xBF) b) Tail1
-step-state AfterED b = tail-state (within (0x80, 0x9_f) b) Tail1
+step-state AfterED b = tail-state (within (0x80, 0x9F) b) Tail1
 step-state AfterF0 b = tail-state (within (0x90, 0xBF) b) Tail2
-step-state AfterF4 b = tail-state (within (0x80, 0x8_f) b) Tail2
+step-state AfterF4 b = tail-state (within (0x80, 0x8F) b) Tail2
 
 -- each text, from any state, leaves one of the states
 pub text-state : (u : Utf8) (l : List ℕ) → (v : Utf8) × (after (pending u) l ≡ pending v)

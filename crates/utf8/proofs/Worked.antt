@@ -35,7 +35,7 @@ unfolding after step follow
 surrogate = refl
 
 -- U+10FFFF
-pub last : utf8 (0xF4 ∷ 0x8_f ∷ 0xBF ∷ 0xBF ∷ []) ≡ true
+pub last : utf8 (0xF4 ∷ 0x8F ∷ 0xBF ∷ 0xBF ∷ []) ≡ true
 unfolding after step follow
 last = refl
 

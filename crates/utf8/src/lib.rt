@@ -31,7 +31,7 @@ fn lead(b: u8) -> Utf8
     ensures { pending result ≡ follow utf8_char b }
 {
     match b {
-        0x00..=0x7_f => Utf8::Whole,
+        0x00..=0x7F => Utf8::Whole,
         0xC2..=0xDF => Utf8::Tail1,
         0xE0 => Utf8::AfterE0,
         0xE1..=0xEC => Utf8::Tail2,
@@ -68,9 +68,9 @@ pub fn step(state: Utf8, b: u8) -> Utf8
         Utf8::Tail2 => within(b, 0x80, 0xBF, Utf8::Tail1),
         Utf8::Tail3 => within(b, 0x80, 0xBF, Utf8::Tail2),
         Utf8::AfterE0 => within(b, 0xA0, 0xBF, Utf8::Tail1),
-        Utf8::AfterED => within(b, 0x80, 0x9_f, Utf8::Tail1),
+        Utf8::AfterED => within(b, 0x80, 0x9F, Utf8::Tail1),
         Utf8::AfterF0 => within(b, 0x90, 0xBF, Utf8::Tail2),
-        Utf8::AfterF4 => within(b, 0x80, 0x8_f, Utf8::Tail2),
+        Utf8::AfterF4 => within(b, 0x80, 0x8F, Utf8::Tail2),
     }
 }
 

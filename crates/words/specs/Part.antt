@@ -28,10 +28,10 @@ abbrev pub signed_words : ℤ → List ℕ
 signed_words z = sign z ∷ nat_abs z ∷ []
 
 abbrev pub bits32 : Float → ℕ
-bits32 x = bits_of binary32 0x7_fC00000 x
+bits32 x = bits_of binary32 0x7FC00000 x
 
 abbrev pub bits64 : Float → ℕ
-bits64 x = bits_of binary64 0x7_fF8000000000000 x
+bits64 x = bits_of binary64 0x7FF8000000000000 x
 
 -- a number with a 1 before it if it is present
 abbrev pub option_words : Option ℕ → List ℕ

@@ -19,7 +19,7 @@ pub returns-in-244 : goal.returns-in-244
 returns-in-244 c = sym (regional 0xF4 0xF4 utf8_char _ refl (omega arith) (omega arith))
 
 pub returns-in-0-to-127 : goal.returns-in-0-to-127
-returns-in-0-to-127 c = sym (regional 0x00 0x7_f utf8_char _ refl (omega arith) (omega arith))
+returns-in-0-to-127 c = sym (regional 0x00 0x7F utf8_char _ refl (omega arith) (omega arith))
 
 pub returns-in-194-to-223 : goal.returns-in-194-to-223
 returns-in-194-to-223 c = sym (regional 0xC2 0xDF utf8_char _ refl (omega arith) (omega arith))

@@ -1,4 +1,4 @@
--- No second answer of `core`: neither another word, nor another row, nor another brief answer. Assumes nothing.
+-- No second answer of `intake`: neither another word, nor another row, nor another brief answer. Assumes nothing.
 use Rattle.std.proofs.Common.{◌≡◌, ℕ, List, sym, refl, ap, ◌∙◌}
 use Rattle.answer.specs.Sentence.{answer}
 use Rattle.gather.specs.declared.line.Outcome.{Outcome}

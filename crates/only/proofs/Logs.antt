@@ -1,4 +1,4 @@
--- No second answer of `log`, and no other words of a table that is lent. Assumes nothing.
+-- No second answer of `logs`, and no other words of a table that is lent. Assumes nothing.
 use Rattle.std.proofs.Common.{◌≡◌, ℕ, Bool, List, [], length, take, refl, ap}
 use Rattle.lines.specs.Places.{is_place}
 use Rattle.gather.specs.Table.{fresh_table}

@@ -111,12 +111,7 @@ impl Found {
 
 /// The file of `crates/only` that has the theorems of a library.
 fn theorems_of(library: &str) -> String {
-    let name = match library {
-        "intake" => "core",
-        "logs" => "log",
-        name => name,
-    };
-    let (first, rest) = name.split_at(1);
+    let (first, rest) = library.split_at(1);
     first.to_uppercase() + rest
 }
 

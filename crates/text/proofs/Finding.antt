@@ -27,7 +27,7 @@ handed (Ok v) (a, b) = absurd b
 handed (Err x) (a, b) = ap Err b
 
 module _ {A B : Type 0} {s : List ℕ} {at : ℕ} {q : Reader A} (k : A → Reader B) where
-  halts : (e : Fault) {r : Placed A} → Reads s at q r → r ≡ faulted e → Reads s at (q >>= k) (faulted e)
+  pub halts : (e : Fault) {r : Placed A} → Reads s at q r → r ≡ faulted e → Reads s at (q >>= k) (faulted e)
   halts NoMatch t e = stop-at k t e
   halts UnknownType t e = fail-at k t e
   halts Number t e = fail-at k t e

@@ -5,7 +5,6 @@ pub mod Decimals
 pub mod Cases
 pub mod Order
 pub mod Bounds
-pub mod Steps
 pub mod Facts
 pub mod Exactly
 pub mod NotNan

@@ -8,10 +8,10 @@ use Rattle.text.proofs.Faults.{Faultless}
 use Rattle.std.specs.Prelude.{Result, Ok, Err, IsErr, IsErrAnd}
 use Rattle.std.specs.Result.{result_from_control_flow}
 use Rattle.std.proofs.Common.{Continue, Break}
-use Rattle.text.specs.Reader.{Reader, miss, ◌>>=◌, pure, opt, or_miss, UnknownType as IsUnknown, Number as IsNumber, BadTime as IsBadTime}
+use Rattle.text.specs.Reader.{Reader, miss, ◌>>=◌, pure, opt, alt, or_miss, UnknownType as IsUnknown, Number as IsNumber, BadTime as IsBadTime}
 use Rattle.text.specs.Placed.{Placed, Reads}
 use Rattle.text.specs.Answer.{told, faulted, Finds}
-use Rattle.text.proofs.Places.{stop as stop-at, fail as fail-at, go as go-at, done-as, miss-none, miss-some, missed, barred, no-read, opt-some, opt-none}
+use Rattle.text.proofs.Places.{stop as stop-at, fail as fail-at, go as go-at, done-as, miss-none, miss-some, missed, barred, no-read, opt-some, opt-none, alt-first, alt-second}
 use Rattle.text.specs.declared.Fault.{Fault}
 use Rattle.text.specs.declared.Fault.TheVariants.{NoMatch, UnknownType, Number, BadTime}
 
@@ -22,7 +22,7 @@ went e f = e ∙ ap result_from_control_flow f
 broke : {T : Type 0} {r : Result T Fault} {w : _} {x : _} → r ≡ result_from_control_flow w → w ≡ Break x → r ≡ Err x.0
 broke e f = e ∙ ap result_from_control_flow f
 
-handed : {U : Type 0} (r : Result U Fault) {e : Fault} → IsErr r × IsErrAnd r (λ x. x ≡ e) → r ≡ Err e
+pub handed : {U : Type 0} (r : Result U Fault) {e : Fault} → IsErr r × IsErrAnd r (λ x. x ≡ e) → r ≡ Err e
 handed (Ok v) (a, b) = absurd b
 handed (Err x) (a, b) = ap Err b
 
@@ -67,6 +67,9 @@ module _ {A : Type 0} {s : List ℕ} {at : ℕ} {q : Reader A} where
   unmatched n Number t = absurd (n IsNumber _ (barred t refl))
   unmatched n BadTime t = absurd (n IsBadTime _ (barred t refl))
 
+  pub not-found : {R : Type 0} {see : R → A × ℕ} {r : Result R Fault} {e : Fault} → Faultless q → r ≡ Err e → Finds s at q see r → q (drop at s) ≡ miss
+  not-found {e = e} n h t = let u : Reads s at q (faulted e) = rw h at t.reads in unmatched n e u
+
   pub opt-found : {R R' : Type 0} {see : R → A × ℕ} {look : R' → Option A × ℕ} {r : Result R Fault} {x : R} {y : R'} → r ≡ Ok x → (look y).0 ≡ some (see x).0
       → (look y).1 ≡ (see x).1
       → Finds s at q see r
@@ -77,8 +80,14 @@ module _ {A : Type 0} {s : List ℕ} {at : ℕ} {q : Reader A} where
       → (look y).1 ≡ at
       → Finds s at q see r
       → Finds s at (opt q) look (Ok y)
-  opt-not {e = e} n h f g t =
-      let u : Reads s at q (faulted e) = rw h at t.reads in
-      record { reads = rw (f, g) (opt-none q (no-read (unmatched n e u)) refl) }
+  opt-not n h f g t = record { reads = rw (f, g) (opt-none q (no-read (not-found n h t)) refl) }
+
+  -- one reader or else another
+  module _ (q' : Reader A) {R S : Type 0} {see : R → A × ℕ} {look : S → A × ℕ} {r : Result R Fault} where
+    pub alt-found : {x : R} {y : S} → r ≡ Ok x → (look y).0 ≡ (see x).0 → (look y).1 ≡ (see x).1 → Finds s at q see r → Finds s at (alt q q') look (Ok y)
+    alt-found e f g t = record { reads = rw (f, g) (alt-first q' (rw e at t.reads)) }
+
+    pub alt-not : {b : Result S Fault} {e : Fault} → Faultless q → r ≡ Err e → Finds s at q see r → Finds s at q' look b → Finds s at (alt q q') look b
+    alt-not n h t u = record { reads = alt-second q' _ (no-read (not-found n h t)) u.reads }
 
 pub ruleset finding = (stop, go, go-on, done, means, means-not)

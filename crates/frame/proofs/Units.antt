@@ -8,7 +8,6 @@ use lib.Dec.{leb, ltb, eqb}
 use borrow.Author.Tests.{le-leb, lt-leb, leb-true, lt-ltb, ltb-false, eq-eqb, eqb-true, ne_eqb}
 use Rattle.text.specs.Bytes.{byte}
 use Rattle.frame.specs.Digits.{within, digit, lead_digit}
-use Rattle.frame.specs.Code.{or_sixteen}
 
 module _ (lo hi b : ℕ) where
   inside : lo ≤ b → b ≤ hi → within lo hi b ≡ true
@@ -100,8 +99,8 @@ module _ (b : ℕ) where
       by false h e = digit-ascii e
 
   -- a first byte, by what it is: `+`, or as a digit
-  pub lead-plus : b ≡ byte "+" → 0 ≡ or_sixteen (lead_digit b)
+  pub lead-plus : b ≡ byte "+" → some 0 ≡ lead_digit b
   lead-plus e = rw (eq-eqb b (byte "+") e)
 
-  pub lead-other : {x : ℕ} → (b ≡ byte "+" → ⊥) → x ≡ or_sixteen (digit b) → x ≡ or_sixteen (lead_digit b)
-  lead-other n e = rw (ne_eqb b (byte "+") n) e
+  pub lead-other : (b ≡ byte "+" → ⊥) → lead_digit b ≡ digit b
+  lead-other n = rw (ne_eqb b (byte "+") n)

@@ -1,17 +1,19 @@
 // Why a text is refused.
 ghost use Rattle.std.specs.Prelude.{◌≡◌};
-ghost use Rattle.frame.specs.Answer.{number_of};
+ghost use Rattle.frame.specs.Answer.{number_of, refusal_of};
+
+use text::Fault;
 
 // The two bytes that name who sends.
-#[derive(Clone, Copy)]
+#[derive(Clone, Copy, Debug, PartialEq, Eq)]
 pub struct Talker(pub u8, pub u8);
 
 // The three letters of a sentence's type.
-#[derive(Clone, Copy)]
+#[derive(Clone, Copy, Debug, PartialEq, Eq)]
 pub struct Kind(pub u8, pub u8, pub u8);
 
 // Each refusal, with what it carries.
-#[derive(Clone, Copy)]
+#[derive(Clone, Copy, Debug, PartialEq, Eq)]
 pub enum Refusal {
     BadUtf8,
     NotAscii,
@@ -53,6 +55,20 @@ impl Refusal {
             Refusal::BadTime => 11,
             Refusal::LogTooLong(_) => 12,
             Refusal::BadPlace(_) => 13,
+        }
+    }
+}
+
+// What a reader's fault is at the top: no match is Syntax.
+impl From<Fault> for Refusal {
+    ghost from_gives = { λ fault refusal. refusal ≡ refusal_of fault };
+
+    fn from(fault: Fault) -> Refusal {
+        match fault {
+            Fault::NoMatch => Refusal::Syntax,
+            Fault::UnknownType => Refusal::UnknownType,
+            Fault::Number => Refusal::Number,
+            Fault::BadTime => Refusal::BadTime,
         }
     }
 }

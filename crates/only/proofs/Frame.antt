@@ -9,8 +9,7 @@ use Rattle.text.specs.Answer.{Finds, part}
 use Rattle.text.specs.declared.Fault.{Fault}
 use Rattle.frame.specs.Types.{types, listed}
 use Rattle.frame.specs.Checksum as Checksum
-use Rattle.frame.specs.Frame.{accepted, checksum_field, frame, data_in}
-use Rattle.frame.specs.Frame.{refused as refusal}
+use Rattle.frame.specs.Frame.{checksum_field, frame, data_in}
 use Rattle.frame.specs.Answer.{talker_bytes, letters, refused, number_of, parts, data_of, field, framed}
 use Rattle.frame.specs.declared.refusal.Talker.{Talker}
 use Rattle.frame.specs.declared.refusal.Kind.{Kind}

@@ -17,6 +17,7 @@ taken-one (Ok (Some g)) (Ok (Some h)) b o =
     let t : talker g.talker ≡ talker h.talker = cc in
     let e : head_of g.head ≡ head_of h.head = cc in
     λ i. Ok (Some (record { talker = talker-apart.one t i; head = head-apart.one e i; outcome = o i }))
+taken-one (Err r) (Ok None) b o = cc
 taken-one (Err r) (Err q) b o = ap Err (refusal-apart.one cc)
 taken-one r q b o = cc
 

@@ -31,6 +31,7 @@ step-one (Ok (Line l o a)) (Ok (Line m p b)) e h =
     let s : l ≡ m = line-one l m cc in
     let n : a ≡ b = cc in
     λ i. Ok (Line (s i) (h i) (n i))
+step-one (Err r) (Ok (End a)) e h = cc
 step-one (Err r) (Err q) e h = ap Err (refusal-apart.one cc)
 step-one r q e h = cc
 

@@ -23,7 +23,7 @@ use Rattle.only.proofs.Vtg.{vtg-apart}
 -- a talker, and data that are told apart
 message-apart : {T A : Type 0} {f : T → A} → TellsApart f → TellsApart (sentence f)
 message-apart u = record {
-  one = λ e i. record { talker = talker-apart.one (λ j. (e j).talker) i; «data» = u.one (λ j. (e j).body) i }
+  one = λ e i. record { talker = talker-apart.one (λ j. (e j).talker) i; «data» = u.one (λ j. (e j).body) i };
 }
 
 record-one : (r q : Record) → record_of r ≡ record_of q → r ≡ q

@@ -58,7 +58,7 @@ next-apart = record { one = λ e i. (e i).1 }
 pub part-apart : (s : List ℕ) (at : ℕ) → TellsApart (part s at)
 part-apart s at = record { one = λ e i. (e i).1 }
 
--- an answer, which may be a fault
+-- An answer, which may be a fault. Each pair that the last equation stands for means two things: for that, faults are named one by one.
 told-one : {R A : Type 0} {see : R → A × ℕ} → TellsApart see → (r q : Result R Fault) → told see r ≡ told see q → r ≡ q
 told-one {see = see} u (Ok x) (Ok y) e =
     let a : (see x).0 ≡ (see y).0 = cc in

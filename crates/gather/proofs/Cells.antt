@@ -13,8 +13,7 @@ use Rattle.text.proofs.Stores.{sets-append}
 use Rattle.gsv.specs.Gsv.{Satellite, keep}
 use Rattle.gsv.specs.Answer.{slot}
 use Rattle.gsv.specs.declared.SatInfo.{SatInfo}
-use Rattle.gsv.specs.declared.Slot.{Slot}
-use Rattle.gsv.specs.declared.Slot.TheVariants.{Empty, Seen}
+use Rattle.std.specs.Prelude.{Option as Maybe, Some}
 use Rattle.short.specs.Texts.{Upto, Readable, AllReadable}
 use Rattle.gather.specs.Words.{number_of, sat_at, sats_from, word_of, cell_words, flat}
 use Rattle.gather.specs.Code.{Stored}
@@ -146,10 +145,7 @@ stored-four a b c d p q r s =
     kept a (keep b (keep c (keep d []))) (stored-two p (kept b (keep c (keep d [])) (stored-two q (kept c (keep d []) (stored-two r s)))))
 
 -- one entry
-pub stored-none : (l : List ℕ) (k : ℕ) (s : Slot) → s ≡ Empty → Stored l l k (keep (slot s) []) k
-stored-none l k s e = rw e (record { words = refl; count = omega arith })
-
-pub stored-some : (l : List ℕ) (k : ℕ) (s : Slot) (t : SatInfo) (x y z : ℕ) → s ≡ Seen t → x ≡ word_of (held t.elevation)
+pub stored-some : (l : List ℕ) (k : ℕ) (s : Maybe SatInfo) (t : SatInfo) (x y z : ℕ) → s ≡ Some t → x ≡ word_of (held t.elevation)
     → y ≡ word_of (held t.azimuth) → z ≡ word_of (held t.signal)
     → Stored l (set (set (set (set l (4 + k * 4) t.id) (4 + k * 4 + 1) x) (4 + k * 4 + 2) y) (4 + k * 4 + 3) z) k (keep (slot s) []) (k + 1)
 stored-some l k s t x y z e ex ey ez =

@@ -11,13 +11,11 @@ use Rattle.gather.proofs.run.count.Goals as goal
 pub returns-then-heads-ne-WORDS : goal.returns-then-heads-ne-WORDS
 returns-then-heads-ne-WORDS c = no-heads c.args.heads.now (talker c.args.talker) (head_of c.args.head) c.if-heads-ne-WORDS.true
 
-pub run_at-requires : goal.run_at-requires
-run_at-requires c =
-    (c.if-heads-ne-WORDS.false, omega (arith, c.row_of-row.ensures, row-below (source c.source_of.result)))
+pub run_at-requires-clause-row : goal.run_at-requires-clause-row
+run_at-requires-clause-row c = omega (arith, c.row_of-row.ensures, row-below (source c.source_of.result))
 
-pub set_run-requires : goal.set_run-requires
-set_run-requires c =
-    (c.if-heads-ne-WORDS.false, omega (arith, c.row_of-row.ensures, row-below (source c.source_of.result)))
+pub set_run-requires-clause-row : goal.set_run-requires-clause-row
+set_run-requires-clause-row c = omega (arith, c.row_of-row.ensures, row-below (source c.source_of.result))
 
 pub returns : goal.returns
 returns c =

@@ -12,7 +12,7 @@ use Rattle.rows.specs.Leave.{upto, entry_size}
 use Rattle.gather.specs.Words.{cell_count, cell_at, number_of, flat, stands}
 use Rattle.gather.specs.Heads.{run_stands}
 use Rattle.gather.specs.declared.lent.Pile.{Pile}
-use Rattle.gather.specs.declared.line.Before.{Before}
+use Rattle.std.specs.Prelude.{Option as Before, Some, None}
 use Rattle.gather.specs.declared.run.Run.{Run}
 
 pub record Digits (x r : ℕ) : Type 0 where
@@ -66,9 +66,10 @@ headed n k v = record { key = 0; n = n; number = k; view = v; sats = [] }
 abbrev pub on_row : List ℕ → ℕ → ℕ → ℕ → Bool
 on_row ws n k v = eqb n (get_or ws 0 0) && (eqb k (get_or ws 1 0) && (eqb v (get_or ws 2 0) && stands ws))
 
-abbrev pub before_of : Option (List Satellite) → Before
-before_of none = record { runs = false; count = 0 }
-before_of (some es) = record { runs = true; count = length es }
+-- how many entries stand before a line, where it starts a run or goes on with one
+abbrev pub before_of : Option (List Satellite) → Before ℕ
+before_of none = None
+before_of (some es) = Some (length es)
 
 -- the words of k entries and some more
 pub record Stored (ws ws' : List ℕ) (k : ℕ) (es : List Satellite) (r : ℕ) : Type 0 where

@@ -59,7 +59,8 @@ fn within(x: u32, max: u32) -> bool
 
 // The numbers of cell i are within two limits.
 fn cell_within(row: &[u32], i: usize, ids: u32, max: u32) -> bool
-    requires { (length row.now ≡ row_words) × (i < cell_count) }
+    requires row { length row.now ≡ row_words }
+    requires cell { i < cell_count }
     ensures { result ≡ sat_within ids max (sat_at row.now i) }
 {
     let at = HEAD + i * CELL;
@@ -76,15 +77,14 @@ fn cell_within(row: &[u32], i: usize, ids: u32, max: u32) -> bool
 }
 
 fn all_within(row: &[u32], count: usize, ids: u32, max: u32) -> bool
-    requires { (length row.now ≡ row_words) × (count ≤ cell_count) }
+    requires row { length row.now ≡ row_words }
+    requires cells { count ≤ cell_count }
     ensures { result ≡ all_within ids max (sats_from 0 count row.now) }
 {
-    let mut i = 0;
-    while i < count {
+    for i in 0..count {
         if !cell_within(row, i, ids, max) {
             return false;
         }
-        i += 1;
     }
     true
 }
@@ -102,7 +102,8 @@ fn raised(x: u32) -> u32
 // The bits of the numbers of cell i, each raised, and those of its satellite, which is never absent. The satellite is raised too so that
 // the four words are alike: they are then taken by one instruction.
 fn cell_bits(row: &[u32], i: usize) -> u32
-    requires { (length row.now ≡ row_words) × (i < cell_count) }
+    requires row { length row.now ≡ row_words }
+    requires cell { i < cell_count }
     ensures { result ≡ sat_bits (sat_at row.now i) }
 {
     let at = HEAD + i * CELL;
@@ -115,7 +116,8 @@ fn cell_bits(row: &[u32], i: usize) -> u32
 
 // Whether the first count of the cells have short entries: a line's cells at once, and then one by one.
 fn all_short(row: &[u32], count: usize) -> bool
-    requires { (length row.now ≡ row_words) × (count ≤ cell_count) }
+    requires row { length row.now ≡ row_words }
+    requires cells { count ≤ cell_count }
     ensures { result ≡ all_within short_max short_max (sats_from 0 count row.now) }
 {
     let mut i = 0;
@@ -162,7 +164,8 @@ fn opt_digits(x: u32) -> usize
 
 // The bytes of the entry in cell i, with one for a comma.
 fn size_at(row: &[u32], i: usize) -> usize
-    requires { (length row.now ≡ row_words) × (i < cell_count) }
+    requires row { length row.now ≡ row_words }
+    requires cell { i < cell_count }
     ensures { Sized (sat_at row.now i) result }
 {
     let at = HEAD + i * CELL;
@@ -210,7 +213,8 @@ fn pile_on(p: Pile, w: usize, room: usize) -> Pile
 
 // How many lines the first count of the cells take.
 fn pieces(row: &[u32], view: u32, count: usize) -> usize
-    requires { (length row.now ≡ row_words) × (count ≤ cell_count) }
+    requires row { length row.now ≡ row_words }
+    requires cells { count ≤ cell_count }
     ensures { result ≡ piece_count entry_size (space view) (sats_from 0 count row.now) }
 {
     let d = digits(view);
@@ -220,18 +224,15 @@ fn pieces(row: &[u32], view: u32, count: usize) -> usize
         count: ENTRIES,
         used: 0,
     };
-    let mut i = 0;
-    while i < count {
-        let w = size_at(row, i);
-        p = pile_on(p, w, room);
-        i += 1;
+    for i in 0..count {
+        p = pile_on(p, size_at(row, i), room);
     }
     p.lines
 }
 
 // Lines of at most 102 bytes can leave this row.
 pub fn row_stands(row: &[u32]) -> bool
-    ensures { (result ≡ stands row.now) × (row.now ≡ row.now) }
+    ensures { result ≡ stands row.now }
 {
     if row.len() != ROW {
         return false;

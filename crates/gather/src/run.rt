@@ -98,7 +98,8 @@ pub const WORDS: usize = table::ROWS * RUN;
 
 // The run of a row.
 fn run_at(heads: &[u32], row: usize) -> Run
-    requires { (length heads.now ≡ head_words) × (row < row_count) }
+    requires heads { length heads.now ≡ head_words }
+    requires row { row < row_count }
     ensures { result ≡ run_at heads.now row }
 {
     let at = row * RUN;
@@ -110,7 +111,8 @@ fn run_at(heads: &[u32], row: usize) -> Run
 }
 
 fn set_run(heads: &mut [u32], row: usize, run: Run)
-    requires { (length heads.old ≡ head_words) × (row < row_count) }
+    requires heads { length heads.old ≡ head_words }
+    requires row { row < row_count }
     ensures { heads.new ≡ set_run heads.old row run }
 {
     let at = row * RUN;

@@ -1,19 +1,17 @@
 -- For the code, not for a reader of the scope: what its parts answer.
-use Rattle.std.specs.Prelude.{◌≡◌, ℕ, ◌+◌, ◌-◌, ◌≤◌, Bool, false, List, [], length, take, drop, ◌≢◌}
-use Rattle.gsa.specs.Answer.{row}
+use Rattle.std.specs.Prelude.{◌≡◌, ℕ, ◌+◌, ◌-◌, ◌≤◌, ◌<◌, Bool, true, false, List, length, take, drop, ◌≢◌, Option, Result, Ok, Err}
+use Rattle.frame.specs.declared.refusal.Refusal.{Refusal}
+use Rattle.frame.specs.declared.refusal.Refusal.TheVariants.{LogTooLong, BadPlace}
+use Rattle.sentence.specs.declared.Record.{Record}
 use Rattle.answer.specs.Sentence.{is_rmc, is_gsa, is_gsv, is_gga, is_gll, is_vtg, is_other, is_refused}
 use Rattle.lines.specs.Lines.{line_feed}
-use Rattle.lines.specs.Places.{line_at, next_place, stretch}
-use Rattle.gather.specs.declared.line.Outcome.TheVariants.{Nothing}
+use Rattle.lines.specs.Places.{is_place, line_at, next_place, stretch}
 use Rattle.gather.specs.Heads.{Matches}
 use Rattle.fed.specs.Line.{LogLine, blank, read, said_of, accepted_gsv, gathers}
 use Rattle.fed.specs.Fed.{is_handed}
 use Rattle.logs.specs.Step.{longest}
-use Rattle.logs.specs.Answer.{line_in, beside_said, Cells}
+use Rattle.logs.specs.Answer.{line_in}
 use Rattle.logs.specs.declared.line.Bounds.{Bounds}
-use Rattle.logs.specs.declared.line.LineAt.{LineAt}
-use Rattle.logs.specs.declared.step.Stepped.{Stepped}
-use Rattle.logs.specs.declared.step.StepAnswer.{StepAnswer}
 use Rattle.logs.specs.declared.walk.Counts.{Counts}
 use Rattle.logs.specs.declared.walk.LineTaken.{LineTaken}
 use Rattle.logs.specs.declared.walk.Sort.{Sort}
@@ -38,8 +36,11 @@ Saw feed b r = r ≡ false → (feed ≡ false) × (b ≢ line_feed)
 abbrev pub Clear : List ℕ → ℕ → ℕ → Bool → Type 0
 Clear log p n r = r ≡ false → length (stretch (drop p log)) ≡ n + length (stretch (drop (p + n) log))
 
-abbrev pub idle_of : Stepped → StepAnswer
-idle_of s = record { stepped = s; satellites = row []; count = 0; handed = Nothing }
+-- what bars a walk from a place: the two checks, in their order
+pub data Bars (log : List ℕ) (p : ℕ) : Result (Unit {0}) Refusal → Type 0 where
+  too_long : longest < length log → Bars log p (Err (LogTooLong (length log)))
+  no_place : length log ≤ longest → is_place log p ≡ false → Bars log p (Err (BadPlace p))
+  none : length log ≤ longest → is_place log p ≡ true → Bars log p (Ok tt)
 
 abbrev pub sort_of : LogLine → Sort
 sort_of blank = Blank
@@ -75,10 +76,9 @@ pub record Takes (log : List ℕ) (p : ℕ) (t t' : List ℕ) (r : LineTaken) : 
   pub next : r.next ≡ next_place log p
 
 -- the line at a place that is not the end, and the place after it
-pub record SaysLine (log : List ℕ) (p : ℕ) (r : LineAt) : Type 0 where
-  pub says : line_in (take r.count r.satellites) r.line ≡ said_of (line_at log p)
-  pub beside : Cells (beside_said (said_of (line_at log p))) r.satellites r.count
-  pub next : r.next ≡ next_place log p
+pub record SaysLine (log : List ℕ) (p : ℕ) (r : Option (Result Record Refusal) × ℕ) : Type 0 where
+  pub says : line_in r.0 ≡ said_of (line_at log p)
+  pub next : r.1 ≡ next_place log p
 
 -- the same by heads: whatever table has runs with these heads, the line counts as it does there, and leaves its heads
 pub record CountsAs (log : List ℕ) (p : ℕ) (t heads : List ℕ) (r : LineTaken) : Type 0 where

@@ -2,9 +2,9 @@
 // Each reader takes the whole text and a place in it, and answers the next place; past the end nothing stands.
 #![tactic(auto)]
 
-ghost use Rattle.std.specs.Prelude.{◌≡◌};
+ghost use Rattle.std.specs.Prelude.{◌≡◌, ◌≤◌};
 ghost use Rattle.text.specs.Reader.{char, one_of, letter_of, opt, until};
-ghost use Rattle.text.specs.Number.{number, two_bytes, three_bytes};
+ghost use Rattle.text.specs.Number.{number, fixed, two_bytes, three_bytes};
 ghost use Rattle.text.specs.Code.{unit};
 ghost use Rattle.text.specs.Answer.{Finds, next, part, itself, seen, held};
 
@@ -116,54 +116,43 @@ pub fn unit(b: u8) -> u32
 pub fn two(s: &[u8], at: usize) -> Parsed<u32>
     ensures { Finds s.now at two_bytes itself result }
 {
-    if s.len() < 2 {
-        return Err(Fault::NoMatch);
-    }
-    if s.len() - 2 < at {
-        return Err(Fault::NoMatch);
-    }
-    let mut tens = unit(s[at]);
-    if 9 < tens {
-        if s[at] != b'+' {
-            return Err(Fault::NoMatch);
-        }
-        tens = 0;
-    }
-    let ones = unit(s[at + 1]);
-    if 9 < ones {
-        return Err(Fault::NoMatch);
-    }
-    Ok((tens * 10 + ones, at + 2))
+    fixed_width::<2>(s, at)
 }
 
 // Three bytes: digits, or `+` and digits, up to 255.
 pub fn three(s: &[u8], at: usize) -> Parsed<u32>
     ensures { Finds s.now at three_bytes itself result }
 {
-    if s.len() < 3 {
+    fixed_width::<3>(s, at)
+}
+
+// `N` bytes, two or more: digits, or `+` and digits, up to 255.
+fn fixed_width<const N: usize>(s: &[u8], at: usize) -> Parsed<u32>
+    requires { 2 ≤ N }
+    ensures { Finds s.now at (fixed N 255) itself result }
+{
+    if s.len() < N {
         return Err(Fault::NoMatch);
     }
-    if s.len() - 3 < at {
+    if s.len() - N < at {
         return Err(Fault::NoMatch);
     }
-    let mut hundreds = unit(s[at]);
-    if 9 < hundreds {
+    let mut value = unit(s[at]);
+    if 9 < value {
         if s[at] != b'+' {
             return Err(Fault::NoMatch);
         }
-        hundreds = 0;
+        value = 0;
     }
-    let tens = unit(s[at + 1]);
-    if 9 < tens {
-        return Err(Fault::NoMatch);
+    for i in at + 1..at + N {
+        let d = unit(s[i]);
+        if 9 < d {
+            return Err(Fault::NoMatch);
+        }
+        value = value * 10 + d;
+        if 255 < value {
+            return Err(Fault::NoMatch);
+        }
     }
-    let ones = unit(s[at + 2]);
-    if 9 < ones {
-        return Err(Fault::NoMatch);
-    }
-    let v = (hundreds * 10 + tens) * 10 + ones;
-    if 255 < v {
-        return Err(Fault::NoMatch);
-    }
-    Ok((v, at + 3))
+    Ok((value, at + N))
 }

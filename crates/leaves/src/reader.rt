@@ -62,7 +62,7 @@ impl Reader {
             Reader::LongDecimal => rt.print(Answer(decimal::long_decimal(text, at))),
             Reader::PowerOfTen => rt.print(decimal::pow10(number)),
             Reader::Time => rt.print(Answer(fields::opt_hms(text, at))),
-            Reader::Date => rt.print(Answer(fields::opt_date(text, at))),
+            Reader::Date => rt.print(Answer(Ok(fields::opt_date(text, at)))),
             Reader::Position => rt.print(Answer(fields::parse_lat_lon(text, at))),
             Reader::Variation => rt.print(Answer(fields::parse_magnetic_variation(text, at))),
             Reader::Checksum => match held::calculate(text) {

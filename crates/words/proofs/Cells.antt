@@ -45,4 +45,8 @@ module _ (cells : List ℕ) (count : ℕ) (most : count ≤ kept) (rest : cells 
   stored l o at i ended e =
       let all = all-kept in
       let used : length (take count cells) ≡ count = length-take-le count cells (omega arith) in
-      rw (used, ← cells-are, ← add-one at) (e ∙ ap (sets (set l at count) (at + 1)) (take_all i cells (omega arith)))
+      e
+      ∙ ap (sets (set l at count) (at + 1)) (take_all i cells (omega arith))
+      ∙ ap (λ (j : ℕ). sets (set l at count) j cells) (add-one at)
+      ∙ ap (λ (n : ℕ). sets (set l at n) (suc at) cells) (sym used)
+      ∙ ap (sets (set l at (length (take count cells))) (suc at)) cells-are

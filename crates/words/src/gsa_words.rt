@@ -41,8 +41,6 @@ impl Words for Dops {
 
     ghost long = { λ _. refl };
 
-    ghost few = { Prim.search rules };
-
     fn put(self, out: &mut [u64], at: usize) {
         self.pdop.put(out, at);
         self.hdop.put(out, at + ShortDecimal::SIZE);
@@ -63,8 +61,6 @@ impl Words for Satellites {
     const SIZE: usize = 1 + gsa::SATELLITES;
 
     ghost long = { cells-nineteen };
-
-    ghost few = { Prim.search rules };
 
     fn put(self, out: &mut [u64], at: usize) {
         out[at] = self.count as u64;

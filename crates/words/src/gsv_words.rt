@@ -50,8 +50,6 @@ impl Words for SatInfo {
 
     ghost long = { satellite-seven };
 
-    ghost few = { Prim.search rules };
-
     fn put(self, out: &mut [u64], at: usize) {
         out[at] = u64::from(self.id);
         put_option(out, at + (ELEVATION - SATELLITE), self.elevation);

@@ -1,6 +1,5 @@
 // The parts of an answer, each written at a place of words that are lent. The caller has room for them.
 ghost use Rattle.std.specs.Prelude.{ℕ, List, [], ◌∷◌, ◌≡◌, ◌+◌, ◌≤◌, refl, length};
-ghost use Rattle.std.proofs.Common.{rules};
 ghost use Rattle.std.proofs.Math.Option.{get_or};
 ghost use Rattle.std.proofs.lemmas.List.Edits.{sets};
 ghost use Rattle.text.specs.Answer.{held, held_as};
@@ -27,7 +26,7 @@ pub(crate) fn put_zeros(out: &mut [u64], at: usize, n: usize)
 pub(crate) fn byte_word(b: Option<u8>) -> u64
     ensures { result ≡ get_or (held b) 0 }
 {
-    b.map_or(0, |b| u64::from(b))
+    b.map_or(0, u64::from)
 }
 
 // A value that stands in an answer as a row of words.
@@ -49,8 +48,6 @@ pub(crate) trait Words: Copy {
         ensures { out.new ≡ sets out.old at (words (meaning self)) };
 
     ghost long: { (m : Meaning) → length (words m) ≡ SIZE };
-
-    ghost few: { SIZE ≤ 37 };
 }
 
 // A value that may be absent: a 1 and its words, or zeros.
@@ -80,8 +77,6 @@ impl Words for u32 {
 
     ghost long = { λ _. refl };
 
-    ghost few = { Prim.search rules };
-
     fn put(self, out: &mut [u64], at: usize) {
         out[at] = u64::from(self);
     }
@@ -99,8 +94,6 @@ impl Words for TimeOfDay {
     const SIZE: usize = 4;
 
     ghost long = { λ _. refl };
-
-    ghost few = { Prim.search rules };
 
     fn put(self, out: &mut [u64], at: usize) {
         out[at] = u64::from(self.hour);
@@ -122,8 +115,6 @@ impl Words for Day {
     const SIZE: usize = 3;
 
     ghost long = { λ _. refl };
-
-    ghost few = { Prim.search rules };
 
     fn put(self, out: &mut [u64], at: usize) {
         out[at] = u64::from(self.year);
@@ -152,8 +143,6 @@ impl Words for Coordinate {
 
     ghost long = { λ _. refl };
 
-    ghost few = { Prim.search rules };
-
     fn put(self, out: &mut [u64], at: usize) {
         out[at] = sign_of(self.count);
         out[at + 1] = self.count.unsigned_abs();
@@ -175,8 +164,6 @@ impl Words for Both {
 
     ghost long = { λ _. refl };
 
-    ghost few = { Prim.search rules };
-
     fn put(self, out: &mut [u64], at: usize) {
         self.lat.put(out, at);
         self.lon.put(out, at + Coordinate::SIZE);
@@ -195,8 +182,6 @@ impl Words for ShortDecimal {
     const SIZE: usize = 4;
 
     ghost long = { λ _. refl };
-
-    ghost few = { Prim.search rules };
 
     fn put(self, out: &mut [u64], at: usize) {
         out[at] = sign_of(i64::from(self.whole));

@@ -21,9 +21,7 @@ const SPEED: usize = 8;
 
 const REST: usize = 15;
 
-// And of a speed: its unit, as it is written, and in knots.
-const UNIT: usize = 0;
-
+// And of a speed, behind its unit: the speed as it is written, and in knots.
 const WRITTEN: usize = 1;
 
 const KNOTS: usize = WRITTEN + ShortDecimal::SIZE;
@@ -41,10 +39,8 @@ impl Words for Speed {
 
     ghost long = { λ _. refl };
 
-    ghost few = { Prim.search rules };
-
     fn put(self, out: &mut [u64], at: usize) {
-        out[at + UNIT] = u64::from(self.unit);
+        out[at] = u64::from(self.unit);
         self.written.put(out, at + WRITTEN);
         out[at + KNOTS] = u64::from(decimal::bits_f32(self.knots));
     }

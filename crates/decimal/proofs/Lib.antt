@@ -11,5 +11,4 @@ pub mod NotNan
 pub mod Nearest
 pub mod Number
 pub mod Signs
-pub mod Negation
 pub mod Quotient

@@ -1,5 +1,4 @@
 pub mod Texts
-pub mod Ranges
 pub mod Sums
 pub mod Xor
 pub mod Units

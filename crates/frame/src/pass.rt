@@ -15,7 +15,8 @@ pub(crate) struct Pass {
 
 // No byte ends the loop early, so that it takes many bytes at a time.
 pub(crate) fn one_pass(s: &[u8], to: usize) -> Pass
-    requires { (1 ≤ to) × (to ≤ length s.now) }
+    requires after_start { 1 ≤ to }
+    requires in_text { to ≤ length s.now }
     ensures sum { result.sum ≡ checksum (slice 1 to s.now) }
     ensures star { result.star ≡ among (byte "*") (slice 1 to s.now) }
     ensures top { ascii s.now ≡ (ltb result.top 0x80 && ascii (drop to s.now)) }

@@ -1,17 +1,18 @@
 -- One reader and then another, where the code goes on by `?` with what the first found, or hands its fault on. For `search`. Assumes nothing.
 use Prim.Native.Nat.{ℕ}
+use native.Mathlib.Omega.{arith}
 use mathlib.Core.Path.{◌≡◌, refl, ap, ◌∙◌}
 use mathlib.Core.List.{List}
 use mathlib.Core.Option.{Option, none, some}
 use lib.ListN.{drop}
 use Rattle.text.proofs.Faults.{Faultless}
-use Rattle.std.specs.Prelude.{Result, Ok, Err, IsErr, IsErrAnd}
+use Rattle.std.specs.Prelude.{Option as Maybe, Some, None, Result, Ok, Err, IsErr, IsErrAnd, ok_or}
 use Rattle.std.specs.Result.{result_from_control_flow}
 use Rattle.std.proofs.Common.{Continue, Break}
 use Rattle.text.specs.Reader.{Reader, miss, ◌>>=◌, pure, opt, alt, or_miss, UnknownType as IsUnknown, Number as IsNumber, BadTime as IsBadTime}
 use Rattle.text.specs.Placed.{Placed, Reads}
-use Rattle.text.specs.Answer.{told, faulted, Finds}
-use Rattle.text.proofs.Places.{stop as stop-at, fail as fail-at, go as go-at, done-as, miss-none, miss-some, missed, barred, no-read, opt-some, opt-none, alt-first, alt-second}
+use Rattle.text.specs.Answer.{held_as, told, faulted, Finds}
+use Rattle.text.proofs.Places.{stop as stop-at, fail as fail-at, go as go-at, done-as, miss-none, miss-some, missed, barred, no-read, opt-some, opt-none, opt-bad, alt-first, alt-second}
 use Rattle.text.specs.declared.Fault.{Fault}
 use Rattle.text.specs.declared.Fault.TheVariants.{NoMatch, UnknownType, Number, BadTime}
 
@@ -48,6 +49,26 @@ module _ {A B : Type 0} {s : List ℕ} {at : ℕ} {q : Reader A} (k : A → Read
       → Finds s at (q >>= k) look b
   go-on t u = record { reads = go-at k t.reads refl u.reads }
 
+-- what may be absent, and must be there
+module _ {A B T S : Type 0} {s : List ℕ} {at : ℕ} (k : A → Reader B) (f : T → A) (o : Maybe T) {look : S → B × ℕ} {r : Result T Fault} {b : Result S Fault} where
+  pub absent : {w : _} {x : _} → r ≡ ok_or o NoMatch → r ≡ result_from_control_flow w → w ≡ Break x → IsErr b × IsErrAnd b (λ y. y ≡ x.0) → Finds s at (or_miss (held_as f o) >>= k) look b
+  absent {x = x} h e g u = by o h
+    where
+      by : (o : Maybe T) → r ≡ ok_or o NoMatch → Finds s at (or_miss (held_as f o) >>= k) look b
+      by None h =
+          let z : NoMatch ≡ x.0 = let v = broke e g in cc in
+          record { reads = rw (handed b u, ← z) (stop-at k (miss-none refl) refl) }
+      by (Some y) h = let v = broke e g in let z : ◌≡◌ {A = ℕ} 0 1 = cc in absurd (omega arith)
+
+  pub present : {w : _} {x : T} → r ≡ ok_or o NoMatch → r ≡ result_from_control_flow w → w ≡ Continue x → Finds s at (k (f x)) look b → Finds s at (or_miss (held_as f o) >>= k) look b
+  present {x = x} h e g t = by o h
+    where
+      by : (o : Maybe T) → r ≡ ok_or o NoMatch → Finds s at (or_miss (held_as f o) >>= k) look b
+      by None h = let v = went e g in let z : ◌≡◌ {A = ℕ} 0 1 = cc in absurd (omega arith)
+      by (Some y) h =
+          let z : y ≡ x = let v = went e g in cc in
+          record { reads = go-at k (miss-some (rw z)) refl t.reads }
+
 module _ {B S : Type 0} {s : List ℕ} {at : ℕ} {look : S → B × ℕ} where
   pub done : {x : S} {a : B} → (look x).0 ≡ a → (look x).1 ≡ at → Finds s at (pure a) look (Ok x)
   done {x} {a} e f = record { reads = rw f (done-as e) }
@@ -82,12 +103,26 @@ module _ {A : Type 0} {s : List ℕ} {at : ℕ} {q : Reader A} where
       → Finds s at (opt q) look (Ok y)
   opt-not n h f g t = record { reads = rw (f, g) (opt-none q (no-read (not-found n h t)) refl) }
 
-  -- one reader or else another
-  module _ (q' : Reader A) {R S : Type 0} {see : R → A × ℕ} {look : S → A × ℕ} {r : Result R Fault} where
-    pub alt-found : {x : R} {y : S} → r ≡ Ok x → (look y).0 ≡ (see x).0 → (look y).1 ≡ (see x).1 → Finds s at q see r → Finds s at (alt q q') look (Ok y)
-    alt-found e f g t = record { reads = rw (f, g) (alt-first q' (rw e at t.reads)) }
+  -- one that may refuse
+  pub opt-missed : {R R' : Type 0} {see : R → A × ℕ} {look : R' → Option A × ℕ} {r : Result R Fault} {y : R'} → r ≡ Err NoMatch → (look y).0 ≡ none → (look y).1 ≡ at
+      → Finds s at q see r
+      → Finds s at (opt q) look (Ok y)
+  opt-missed {see = see} h f g t = record { reads = rw (f, g) (opt-none q t.reads (ap (told see) h)) }
 
-    pub alt-not : {b : Result S Fault} {e : Fault} → Faultless q → r ≡ Err e → Finds s at q see r → Finds s at q' look b → Finds s at (alt q q') look b
-    alt-not n h t u = record { reads = alt-second q' _ (no-read (not-found n h t)) u.reads }
+  pub opt-fault : {R R' : Type 0} {see : R → A × ℕ} {look : R' → Option A × ℕ} {r : Result R Fault} (e : Fault) → r ≡ Err e → (e ≡ NoMatch → ⊥) → Finds s at q see r
+      → Finds s at (opt q) look (Err e)
+  opt-fault NoMatch h n t = absurd (n refl)
+  opt-fault {see = see} UnknownType h n t = record { reads = opt-bad q t.reads (ap (told see) h) }
+  opt-fault {see = see} Number h n t = record { reads = opt-bad q t.reads (ap (told see) h) }
+  opt-fault {see = see} BadTime h n t = record { reads = opt-bad q t.reads (ap (told see) h) }
 
-pub ruleset finding = (stop, go, go-on, done, means, means-not)
+-- one reader or else another, where the first goes on with what it found
+module _ {B S : Type 0} {s : List ℕ} {at : ℕ} {look : S → B × ℕ} (q' : Reader B) where
+  pub alt-found : {r : Reader B} {y : S} → Finds s at r look (Ok y) → Finds s at (alt r q') look (Ok y)
+  alt-found t = record { reads = alt-first q' t.reads }
+
+  pub alt-not : {A R : Type 0} {q : Reader A} {see : R → A × ℕ} (k : A → Reader B) {b : Result S Fault} {e : Fault} → Faultless q → Finds s at q see (Err e) → Finds s at q' look b
+      → Finds s at (alt (q >>= k) q') look b
+  alt-not k n t u = record { reads = alt-second q' _ (stop-at k (no-read (not-found n refl t)) refl) u.reads }
+
+pub ruleset finding = (stop, go, go-on, absent, present, done, means, means-not)

@@ -1,4 +1,4 @@
--- What each turn of the loop keeps, and what falls.
+-- What each turn of the loop keeps.
 use Prim.Native.Nat.{◌+◌, ◌*◌, ◌^◌, ◌≤◌, ◌<◌, max}
 use mathlib.Core.Path.{◌≡◌}
 use lib.ListN.{length, drop}

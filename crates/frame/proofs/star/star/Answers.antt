@@ -7,8 +7,7 @@ use Rattle.text.specs.Bytes.{byte}
 use Rattle.text.specs.Reader.{among}
 use Rattle.text.proofs.Letters.{among-any}
 use Rattle.text.proofs.Places.{a-read}
-use Rattle.frame.proofs.Ranges.{cut}
-use Rattle.frame.proofs.Stars.{ends-there}
+use Rattle.frame.proofs.Stars.{lent, ends-there}
 use Rattle.frame.proofs.star.star.Goals as goal
 
 pub returns-then-not-contains : goal.returns-then-not-contains
@@ -16,7 +15,7 @@ returns-then-not-contains c =
     let a = c.args in
     let s = a.s.now in
     let clear =
-    ap (among (byte "*")) (cut s a.at (length s - 3) (omega arith) (omega arith))
+    ap (among (byte "*")) (lent s a.at (length s - 3) (omega arith) (omega arith))
     ∙ sym (among-any (byte "*") _)
     ∙ sym c.contains.ensures.value
     ∙ c.if-not-contains.true in

@@ -560,6 +560,14 @@ pub fn bare_one() -> u8 {
             parameter("s", false, true)
         ]
     );
+    assert_eq!(
+        one("pub fn f(a: Result<u8, Refusal>, g: fn(u8) -> u8, s: &[u8]) -> u8 {").parameters,
+        [
+            parameter("a", false, false),
+            parameter("g", false, false),
+            parameter("s", false, true)
+        ]
+    );
 }
 
 #[test]

@@ -168,14 +168,16 @@ fn without_comments(source: &str, sign: &str) -> String {
         .collect()
 }
 
-/// The parts of a text between separators that stand in no bracket.
+/// The parts of a text between separators that stand in no bracket, nor
+/// between a type's arguments.
 fn split_outside<'a>(text: &'a str, separator: &str) -> Vec<&'a str> {
     let mut parts = vec![];
     let (mut depth, mut start) = (0, 0);
     for (at, letter) in text.char_indices() {
         match letter {
-            '(' | '{' | '[' => depth += 1,
-            ')' | '}' | ']' => depth -= 1,
+            '(' | '{' | '[' | '<' => depth += 1,
+            '>' if text[..at].ends_with('-') => {}
+            ')' | '}' | ']' | '>' => depth -= 1,
             _ if depth == 0 && text[at..].starts_with(separator) => {
                 parts.push(&text[start..at]);
                 start = at + separator.len();
@@ -492,6 +494,12 @@ pub fn names(source: &str) -> Names {
     found
 }
 
+/// The library, by whatever module.
+const LIBRARY: &str = "library";
+
+/// What a contract may name that its file does not import, as its code does.
+const IN_SCOPE: [&str; 4] = ["Ok", "Err", "Some", "None"];
+
 /// The library hands the same words on by several modules, code and theorems take them from others.
 fn handed_on(module: &str) -> &str {
     let same = [
@@ -508,7 +516,7 @@ fn handed_on(module: &str) -> &str {
             .is_some_and(|rest| rest.is_empty() || rest.starts_with('.'))
     };
     if same.iter().any(|of| is_in(&of)) {
-        "library"
+        LIBRARY
     } else {
         module
     }
@@ -523,6 +531,9 @@ impl Names {
             }
             if let Some(full) = self.names.get(word) {
                 return full.clone();
+            }
+            if IN_SCOPE.contains(&word.as_str()) {
+                return format!("{LIBRARY}.{word}");
             }
             match word.split_once('.') {
                 Some((module, name)) if self.modules.contains_key(module) => {

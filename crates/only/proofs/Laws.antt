@@ -1,13 +1,11 @@
--- What makes an answer the only one: its contract is an equation, and what the answer says can be taken back. So a crate's file
--- has the way back from what each of its types means, and a theorem for each function. Assumes nothing.
+-- What makes an answer the only one: its contract is an equation, and no two answers look the same in what it says of them. So the
+-- file of a crate says of each of its types that what its values mean tells them apart, and has a theorem for each function.
+-- Assumes nothing.
 use Rattle.std.specs.Prelude.{Option, Some, None, Result, Ok, Err}
 use Rattle.std.specs.Result.{result_unwrap_or}
 use Rattle.std.proofs.Common.{◌≡◌, ℕ, List, sym, refl, ap, ◌∙◌}
-use Rattle.std.proofs.Math.Option.{Option as Maybe, none, some}
-use Rattle.text.specs.Reader.{Reader, UnknownType as IsUnknown, Number as IsNumber, BadTime as IsBadTime}
-use Rattle.text.specs.Reader as Reader
-use Rattle.text.specs.Placed.{Placed, unread, refused, upto}
-use Rattle.text.specs.Value.{Value, syntax, fault, is}
+use Rattle.text.specs.Reader.{Reader}
+use Rattle.text.specs.Value.{Value, is}
 use Rattle.text.specs.Answer.{held, held_as, itself, seen, next, part, told, valued, Finds}
 use Rattle.text.specs.declared.Fault.{Fault}
 use Rattle.text.specs.declared.Fault.TheVariants.{NoMatch, UnknownType, Number, BadTime}
@@ -16,98 +14,84 @@ use Rattle.text.specs.declared.Fault.TheVariants.{NoMatch, UnknownType, Number, 
 pub same : {A : Type 0} {a x y : A} → x ≡ a → y ≡ a → x ≡ y
 same e f = e ∙ sym f
 
--- where what two answers say is the same, and each can be had back from it, so are they
-pub brought : {A B : Type 0} (back : B → A) {u v : B} {x y : A} → u ≡ v → back u ≡ x → back v ≡ y → x ≡ y
-brought back e p q = sym p ∙ ap back e ∙ q
+-- no two values mean the same
+pub record TellsApart {R A : Type 0} (see : R → A) : Type 0 where
+  pub one : {x y : R} → see x ≡ see y → x ≡ y
 
--- the way back from what a value means to the value
-pub record Undo {R A : Type 0} (see : R → A) : Type 0 where
-  pub undo : A → R
-  pub undoes : (x : R) → undo (see x) ≡ x
+-- where what two answers say is the same, and each can be had back from it, so are they
+pub undone : {R A : Type 0} {see : R → A} (back : A → R) → ((r : R) → back (see r) ≡ r) → TellsApart see
+undone back undoes = record { one = λ {x} {y} e. sym (undoes x) ∙ ap back e ∙ undoes y }
 
 -- two values that mean the same
-pub tells : {R A : Type 0} {see : R → A} {a : A} {x y : R} → Undo see → see x ≡ a → see y ≡ a → x ≡ y
-tells {x = x} {y} u e f = brought u.undo (same e f) (u.undoes x) (u.undoes y)
+pub tells : {R A : Type 0} {see : R → A} {a : A} {x y : R} → TellsApart see → see x ≡ a → see y ≡ a → x ≡ y
+tells u e f = u.one (same e f)
 
 -- what may be absent
-maybe-back : {T A : Type 0} → (A → T) → Maybe A → Option T
-maybe-back undo none = None
-maybe-back undo (some a) = Some (undo a)
+held-one : {T : Type 0} (o p : Option T) → held o ≡ held p → o ≡ p
+held-one None None e = refl
+held-one None (Some y) e = cc
+held-one (Some x) None e = cc
+held-one (Some x) (Some y) e = cc
 
-held-is : {T : Type 0} (o : Option T) → maybe-back (λ x. x) (held o) ≡ o
-unfolding maybe-back
-held-is None = refl
-held-is (Some x) = refl
+pub held-apart : {T : Type 0} → TellsApart (held {T = T})
+held-apart = record { one = λ {x} {y}. held-one x y }
 
-pub held-back : {T : Type 0} → Undo (held {T = T})
-held-back = record { undo = maybe-back (λ x. x); undoes = held-is }
+held-as-one : {T A : Type 0} {f : T → A} → TellsApart f → (o p : Option T) → held_as f o ≡ held_as f p → o ≡ p
+held-as-one u None None e = refl
+held-as-one u None (Some y) e = cc
+held-as-one u (Some x) None e = cc
+held-as-one u (Some x) (Some y) e = ap Some (u.one cc)
 
-held-as-is : {T A : Type 0} {f : T → A} (u : Undo f) (o : Option T) → maybe-back u.undo (held_as f o) ≡ o
-unfolding maybe-back
-held-as-is u None = refl
-held-as-is u (Some x) = ap Some (u.undoes x)
-
-pub held-as-back : {T A : Type 0} {f : T → A} → Undo f → Undo (held_as f)
-held-as-back u = record { undo = maybe-back u.undo; undoes = held-as-is u }
+pub held-as-apart : {T A : Type 0} {f : T → A} → TellsApart f → TellsApart (held_as f)
+held-as-apart u = record { one = λ {x} {y}. held-as-one u x y }
 
 -- what was read, and the next place
-pub itself-back : {A : Type 0} → Undo (itself {A = A})
-itself-back = record { undo = λ r. r; undoes = λ r. refl }
+pub itself-apart : {A : Type 0} → TellsApart (itself {A = A})
+itself-apart = record { one = λ e. e }
 
-pub seen-back : {T A : Type 0} {f : T → A} → Undo f → Undo (seen f)
-seen-back u = record { undo = λ r. (u.undo r.0, r.1); undoes = λ r i. (u.undoes r.0 i, r.1) }
+pub seen-apart : {T A : Type 0} {f : T → A} → TellsApart f → TellsApart (seen f)
+seen-apart u = record { one = λ e i. (u.one (λ j. (e j).0) i, (e i).1) }
 
-pub next-back : Undo next
-next-back = record { undo = λ r. r.1; undoes = λ p. refl }
+pub next-apart : TellsApart next
+next-apart = record { one = λ e i. (e i).1 }
 
-pub part-back : (s : List ℕ) (at : ℕ) → Undo (part s at)
-part-back s at = record { undo = λ r. r.1; undoes = λ p. refl }
+pub part-apart : (s : List ℕ) (at : ℕ) → TellsApart (part s at)
+part-apart s at = record { one = λ e i. (e i).1 }
 
--- an answer, which may be a fault
-fault-back : Reader.Fault → Fault
-fault-back IsUnknown = UnknownType
-fault-back IsNumber = Number
-fault-back IsBadTime = BadTime
+-- An answer, which may be a fault. Each pair that the last equation stands for means two things: for that, faults are named one by one.
+told-one : {R A : Type 0} {see : R → A × ℕ} → TellsApart see → (r q : Result R Fault) → told see r ≡ told see q → r ≡ q
+told-one {see = see} u (Ok x) (Ok y) e =
+    let a : (see x).0 ≡ (see y).0 = cc in
+    let p : (see x).1 ≡ (see y).1 = cc in
+    ap Ok (u.one (λ i. (a i, p i)))
+told-one u (Ok x) (Err NoMatch) e = cc
+told-one u (Err NoMatch) (Err NoMatch) e = refl
+told-one u (Err UnknownType) (Err UnknownType) e = refl
+told-one u (Err Number) (Err Number) e = refl
+told-one u (Err BadTime) (Err BadTime) e = refl
+told-one u r q e = cc
 
-told-undo : {R A : Type 0} → (A × ℕ → R) → Placed A → Result R Fault
-told-undo undo unread = Err NoMatch
-told-undo undo (refused f) = Err (fault-back f)
-told-undo undo (upto a p) = Ok (undo (a, p))
+valued-one : {T A : Type 0} {f : T → A} → TellsApart f → (r q : Result T Fault) → valued f r ≡ valued f q → r ≡ q
+valued-one u (Ok x) (Ok y) e = ap Ok (u.one cc)
+valued-one u (Ok x) (Err NoMatch) e = cc
+valued-one u (Err NoMatch) (Err NoMatch) e = refl
+valued-one u (Err UnknownType) (Err UnknownType) e = refl
+valued-one u (Err Number) (Err Number) e = refl
+valued-one u (Err BadTime) (Err BadTime) e = refl
+valued-one u r q e = cc
 
-told-is : {R A : Type 0} {see : R → A × ℕ} (u : Undo see) (r : Result R Fault) → told-undo u.undo (told see r) ≡ r
-unfolding told-undo fault-back
-told-is u (Ok r) = ap Ok (u.undoes r)
-told-is u (Err NoMatch) = refl
-told-is u (Err UnknownType) = refl
-told-is u (Err Number) = refl
-told-is u (Err BadTime) = refl
+pub valued-apart : {T A : Type 0} {f : T → A} → TellsApart f → TellsApart (valued f)
+valued-apart u = record { one = λ {x} {y}. valued-one u x y }
 
-pub told-back : {R A : Type 0} {see : R → A × ℕ} → Undo see → Undo (told see)
-told-back u = record { undo = told-undo u.undo; undoes = told-is u }
+-- what a reader finds at a place of a text
+pub finds : {R A : Type 0} {s : List ℕ} {at : ℕ} {q : Reader A} {see : R → A × ℕ} {x y : Result R Fault} → TellsApart see → Finds s at q see x → Finds s at q see y → x ≡ y
+finds {x = x} {y = y} u a b = told-one u x y (same a.reads.answer b.reads.answer)
 
-valued-undo : {T A : Type 0} → (A → T) → Value A → Result T Fault
-valued-undo undo syntax = Err NoMatch
-valued-undo undo (fault f) = Err (fault-back f)
-valued-undo undo (is a) = Ok (undo a)
+-- where it always finds something, and where a whole text always means something
+pub always-finds : {R A : Type 0} {s : List ℕ} {at : ℕ} {q : Reader A} {see : R → A × ℕ} {x y : R} → TellsApart see → Finds s at q see (Ok x) → Finds s at q see (Ok y) → x ≡ y
+always-finds {x = x} u a b = ap (λ r. result_unwrap_or r x) (finds u a b)
 
-valued-is : {T A : Type 0} {f : T → A} (u : Undo f) (r : Result T Fault) → valued-undo u.undo (valued f r) ≡ r
-unfolding valued-undo fault-back
-valued-is u (Ok d) = ap Ok (u.undoes d)
-valued-is u (Err NoMatch) = refl
-valued-is u (Err UnknownType) = refl
-valued-is u (Err Number) = refl
-valued-is u (Err BadTime) = refl
-
-pub valued-back : {T A : Type 0} {f : T → A} → Undo f → Undo (valued f)
-valued-back u = record { undo = valued-undo u.undo; undoes = valued-is u }
-
--- what a reader reads of a text at a place
-pub finds : {R A : Type 0} {s : List ℕ} {at : ℕ} {q : Reader A} {see : R → A × ℕ} {x y : Result R Fault} → Undo see → Finds s at q see x → Finds s at q see y → x ≡ y
-finds u x y = tells (told-back u) x.reads.answer y.reads.answer
-
--- an answer that is never a fault
-pub always-finds : {R A : Type 0} {s : List ℕ} {at : ℕ} {q : Reader A} {see : R → A × ℕ} {x y : R} → Undo see → Finds s at q see (Ok x) → Finds s at q see (Ok y) → x ≡ y
-always-finds {x = x} {y} u a b = ap (λ r. result_unwrap_or r x) (finds u a b)
-
-pub always-tells : {T A : Type 0} {f : T → A} {a : Value A} {x y : T} → Undo f → is (f x) ≡ a → is (f y) ≡ a → x ≡ y
-always-tells {x = x} {y} u a b = ap (λ r. result_unwrap_or r x) (tells {x = Ok x} {y = Ok y} (valued-back u) a b)
+pub always-is : {T A : Type 0} {f : T → A} {a : Value A} {x y : T} → TellsApart f → is (f x) ≡ a → is (f y) ≡ a → x ≡ y
+always-is {f = f} {x = x} {y = y} u a b =
+    let e : is (f x) ≡ is (f y) = same a b in
+    u.one cc

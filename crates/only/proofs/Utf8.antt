@@ -6,7 +6,7 @@ use Rattle.utf8.specs.Utf8 as Spec
 use Rattle.utf8.specs.Answer.{pending}
 use Rattle.utf8.specs.declared.Utf8.{Utf8}
 use Rattle.utf8.specs.declared.Utf8.TheVariants.{Whole, Broken, Tail1, Tail2, Tail3, AfterE0, AfterED, AfterF0, AfterF4}
-use Rattle.only.proofs.Laws.{same, Undo, tells}
+use Rattle.only.proofs.Laws.{same, TellsApart, undone, tells}
 
 -- how many octets must follow tells the states apart, and then the range of the next
 state-of : State → Utf8
@@ -28,11 +28,11 @@ state-is AfterED = refl
 state-is AfterF0 = refl
 state-is AfterF4 = refl
 
-pending-back : Undo pending
-pending-back = record { undo = state-of; undoes = state-is }
+pending-apart : TellsApart pending
+pending-apart = undone state-of state-is
 
 pub step : (state : Utf8) (b : ℕ) {r q : Utf8} → pending r ≡ Spec.step (pending state) b → pending q ≡ Spec.step (pending state) b → r ≡ q
-step state b = tells pending-back
+step state b = tells pending-apart
 
 pub whole : (state : Utf8) {r q : Bool} → r ≡ Spec.may_end (pending state) → q ≡ Spec.may_end (pending state) → r ≡ q
 whole state = same

@@ -3,7 +3,7 @@ use Rattle.std.specs.Prelude.{ℕ, ◌∷◌, Result, Ok, Err}
 use Rattle.frame.specs.Answer.{talker_bytes, letters, refused}
 use Rattle.frame.specs.declared.refusal.Refusal.{Refusal}
 use Rattle.gsv.specs.Answer.{gsv_sentence}
-use Rattle.gsa.specs.Answer.{gsa_data}
+use Rattle.gsa.specs.Answer.{gsa_of}
 use Rattle.rmc.specs.Answer.{rmc_data}
 use Rattle.gga.specs.Answer.{gga_data}
 use Rattle.gll.specs.Answer.{gll_data}
@@ -30,7 +30,7 @@ sentence f m = record { talker = talker_bytes m.talker; body = f m.data }
 
 abbrev pub record_of : Record → Answer
 record_of (ARmc m) = is_rmc (sentence rmc_data m)
-record_of (AGsa m) = is_gsa (sentence gsa_data m)
+record_of (AGsa m) = is_gsa (sentence gsa_of m)
 record_of (AGsv g) = is_gsv (gsv_sentence g)
 record_of (AGga m) = is_gga (sentence gga_data m)
 record_of (AGll m) = is_gll (sentence gll_data m)

@@ -185,40 +185,39 @@ abbrev pub waited : Gsv Satellite → List Satellite → Out Satellite
 waited g es = record { row = some (record { n = g.n; next = g.number + 1; view = g.view; sats = es ++ g.sats }); group = none }
 
 -- what a line writes and says
-module _ (ws : List ℕ) (g : Gsv Satellite) where
-  module _ (long : length ws ≡ 148) where
-    pub after-is : (x : Option (List Satellite)) → sofar (meant ws) g ≡ x → row_after ws g ≡ written ws g x
-    after-is x e = λ j. cond (eq-eqb (length ws) 148 long j) (written ws g (e j)) ws
+module _ (ws : List ℕ) (g : Gsv Satellite) (long : length ws ≡ 148) where
+  pub after-is : (x : Option (List Satellite)) → sofar (meant ws) g ≡ x → row_after ws g ≡ written ws g x
+  after-is x e = λ j. cond (eq-eqb (length ws) 148 long j) (written ws g (e j)) ws
 
-    outcome-is : (x : Option (List Satellite)) → sofar (meant ws) g ≡ x → outcome_of ws g ≡ told (taken x g)
-    outcome-is x e = λ j. cond (eq-eqb (length ws) 148 long j) (told (taken (e j) g)) NoRow
+  outcome-is : (x : Option (List Satellite)) → sofar (meant ws) g ≡ x → outcome_of ws g ≡ told (taken x g)
+  outcome-is x e = λ j. cond (eq-eqb (length ws) 148 long j) (told (taken (e j) g)) NoRow
 
-    pub record Begun (k : ℕ) : Type 0 where
-      pub es : List Satellite
-      pub is : sofar (meant ws) g ≡ some es
-      pub count : k ≡ length es
-      pub few : k ≤ 32
-      pub low : g.number ≤ 9
+  pub record Begun (k : ℕ) : Type 0 where
+    pub es : List Satellite
+    pub is : sofar (meant ws) g ≡ some es
+    pub count : k ≡ length es
+    pub few : k ≤ 32
+    pub low : g.number ≤ 9
 
-    pub begun : (k : ℕ) → Some k ≡ before_of (sofar (meant ws) (headed g.n g.number g.view)) → Begun k
-    begun k e = by (sofar (meant ws) g) refl (e ∙ ap before_of (by-head (meant ws) g))
-      where
-        by : (x : Option (List Satellite)) → sofar (meant ws) g ≡ x → Some k ≡ before_of x → Begun k
-        by none q f = let z : ◌≡◌ {A = ℕ} 0 1 = cc in absurd (omega arith)
-        by (some es) q f =
-            let h = goes-on ws g.n g.number g.view es (by-head (meant ws) g ∙ q) in
-            let c : k ≡ length es = cc in
-            record { es = es; is = q; count = c; few = omega (arith, h.few); low = h.low }
+  pub begun : (k : ℕ) → Some k ≡ before_of (sofar (meant ws) (headed g.n g.number g.view)) → Begun k
+  begun k e = by (sofar (meant ws) g) refl (e ∙ ap before_of (by-head (meant ws) g))
+    where
+      by : (x : Option (List Satellite)) → sofar (meant ws) g ≡ x → Some k ≡ before_of x → Begun k
+      by none q f = let z : ◌≡◌ {A = ℕ} 0 1 = cc in absurd (omega arith)
+      by (some es) q f =
+          let h = goes-on ws g.n g.number g.view es (by-head (meant ws) g ∙ q) in
+          let c : k ≡ length es = cc in
+          record { es = es; is = q; count = c; few = omega (arith, h.few); low = h.low }
 
-    -- a line that is not the last leaves the run waiting
-    pub waits : {k t q : ℕ} {m : List ℕ} (x : Begun k) → Stored ws m k g.sats t → (g.number ≡ g.n → ⊥) → q ≡ g.number + 1
-        → Put ws (set (set (set (set m 0 g.n) 1 q) 2 g.view) 3 t) g Waiting
-    waits {k} {t} {q} {m} x s more f =
-        let e : eqb g.number g.n ≡ false = ne_eqb g.number g.n more in
-        let mp : m ≡ sets ws (4 + length x.es * 4) (flat g.sats) = s.words ∙ (λ j. sets ws (4 + x.count j * 4) (flat g.sats)) in
-        let tp : t ≡ length x.es + length g.sats = s.count ∙ (λ j. x.count j + length g.sats) in
-        let qp : q ≡ next_of g = f ∙ sym (λ j. cond (e j) 0 (g.number + 1)) in
-        record {
-          words = (λ j. set (set (set (set (mp j) 0 g.n) 1 (qp j)) 2 g.view) 3 (tp j)) ∙ sym (after-is (some x.es) x.is);
-          says = sym (outcome-is (some x.es) x.is ∙ (λ j. told (cond (e j) (handed g x.es) (waited g x.es))));
-        }
+  -- a line that is not the last leaves the run waiting
+  pub waits : {k t q : ℕ} {m : List ℕ} (x : Begun k) → Stored ws m k g.sats t → (g.number ≡ g.n → ⊥) → q ≡ g.number + 1
+      → Put ws (set (set (set (set m 0 g.n) 1 q) 2 g.view) 3 t) g Waiting
+  waits {k} {t} {q} {m} x s more f =
+      let e : eqb g.number g.n ≡ false = ne_eqb g.number g.n more in
+      let mp : m ≡ sets ws (4 + length x.es * 4) (flat g.sats) = s.words ∙ (λ j. sets ws (4 + x.count j * 4) (flat g.sats)) in
+      let tp : t ≡ length x.es + length g.sats = s.count ∙ (λ j. x.count j + length g.sats) in
+      let qp : q ≡ next_of g = f ∙ sym (λ j. cond (e j) 0 (g.number + 1)) in
+      record {
+        words = (λ j. set (set (set (set (mp j) 0 g.n) 1 (qp j)) 2 g.view) 3 (tp j)) ∙ sym (after-is (some x.es) x.is);
+        says = sym (outcome-is (some x.es) x.is ∙ (λ j. told (cond (e j) (handed g x.es) (waited g x.es))));
+      }

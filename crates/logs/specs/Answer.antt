@@ -11,8 +11,8 @@ use Rattle.gather.specs.declared.line.Outcome.TheVariants.{Nothing}
 use Rattle.fed.specs.Line.{LogLine, blank, read, gathers}
 use Rattle.logs.specs.Step.{Step, refused, end, line, Stepped}
 use Rattle.logs.specs.Walk.{Walk, barred, went, Walked}
-use Rattle.logs.specs.declared.step.Step as CodeStep
-use Rattle.logs.specs.declared.step.Step.TheVariants as step
+use Rattle.logs.specs.declared.step.Stepped as CodeStep
+use Rattle.logs.specs.declared.step.Stepped.TheVariants as stepped
 use Rattle.logs.specs.declared.walk.Counts.{Counts}
 
 abbrev pub line_in : Option (Result Record Refusal) → LogLine
@@ -24,18 +24,18 @@ pub record Follows (x : Maybe GsvSentence) (t t' : List ℕ) (r : Outcome) : Typ
   pub words : t' ≡ (gathers t x).gatherer
   pub says : r ≡ (gathers t x).handed
 
-abbrev pub step_in : Result CodeStep.Step Refusal → Step
+abbrev pub step_in : Result CodeStep.Stepped Refusal → Step
 step_in (Err r) = refused (refusal r)
-step_in (Ok (step.End p)) = end p
-step_in (Ok (step.Line l o p)) = line (line_in l) p
+step_in (Ok (stepped.End p)) = end p
+step_in (Ok (stepped.Line l o p)) = line (line_in l) p
 
 -- what a step says of a row: only a line says anything
-abbrev pub handed_in : Result CodeStep.Step Refusal → Outcome
+abbrev pub handed_in : Result CodeStep.Stepped Refusal → Outcome
 handed_in (Err r) = Nothing
-handed_in (Ok (step.End p)) = Nothing
-handed_in (Ok (step.Line l o p)) = o
+handed_in (Ok (stepped.End p)) = Nothing
+handed_in (Ok (stepped.Line l o p)) = o
 
-pub record SaysStep (s : Stepped) (after : List ℕ) (r : Result CodeStep.Step Refusal) : Type 0 where
+pub record SaysStep (s : Stepped) (after : List ℕ) (r : Result CodeStep.Stepped Refusal) : Type 0 where
   pub says : step_in r ≡ s.answer
   pub gathered : record { gatherer = after; handed = handed_in r } ≡ s.gathered
 

@@ -2,7 +2,7 @@
 ghost use Rattle.std.specs.Prelude.{◌≡◌, length};
 ghost use Rattle.logs.specs.Step.{step_of};
 ghost use Rattle.logs.specs.Answer.{SaysStep};
-ghost use Rattle.logs.specs.Code.{Bars};
+ghost use Rattle.logs.specs.Code.{bar_in, barred_by};
 
 use crate::follow::follow_line;
 use crate::line;
@@ -12,14 +12,14 @@ use gather::line::Outcome;
 
 // The end, or a line, what it did to its row, and the next place. Where its row is complete, the words of the row are the group.
 #[derive(Clone, Copy)]
-pub enum Step {
+pub enum Stepped {
     End(usize),
     Line(Line, Outcome, usize),
 }
 
 // Whether a log may be walked from a place: what bars it, if something does.
 pub(crate) fn start(log: &[u8], place: usize) -> Result<(), Refusal>
-    ensures { Bars log.now place result }
+    ensures { bar_in result ≡ barred_by log.now place }
 {
     if line::LONGEST < log.len() {
         return Err(Refusal::LogTooLong(log.len()));
@@ -31,14 +31,14 @@ pub(crate) fn start(log: &[u8], place: usize) -> Result<(), Refusal>
 }
 
 // The step at a place of a log, with the gatherer's words as they were left.
-pub fn step(log: &[u8], place: usize, words: &mut [u32]) -> Result<Step, Refusal>
+pub fn step(log: &[u8], place: usize, words: &mut [u32]) -> Result<Stepped, Refusal>
     ensures { SaysStep (step_of log.now place words.old) words.new result }
 {
     start(log, place)?;
     if place == log.len() {
-        return Ok(Step::End(place));
+        return Ok(Stepped::End(place));
     }
     let (line, next) = line::line_at(log, place);
     let outcome = follow_line(line, words);
-    Ok(Step::Line(line, outcome, next))
+    Ok(Stepped::Line(line, outcome, next))
 }

@@ -5,13 +5,13 @@ ghost use Rattle.fed.specs.Fed.{is_handed};
 ghost use Rattle.logs.specs.Step.{longest};
 ghost use Rattle.logs.specs.Walk.{grouped, walk_of};
 ghost use Rattle.logs.specs.Answer.{walk_in, SaysWalk};
-ghost use Rattle.logs.specs.Code.{tallied_by, Within, Takes, TakesHead};
+ghost use Rattle.logs.specs.Code.{tallied_by, Within, TakenAt, sort_in, outcome_in, gsv_in, Takes, TakesHead};
 
 use crate::{line, step};
 use frame::Refusal;
 use gather::line::Outcome;
 use gather::run;
-use intake::GsvLine;
+use intake::{GsvLine, Taken};
 
 // What was counted, and the place where the next line begins.
 #[derive(Clone, Copy, Debug, PartialEq, Eq)]
@@ -102,32 +102,40 @@ fn is_handed(outcome: Outcome) -> bool
     matches!(outcome, Outcome::Complete)
 }
 
-// The line at a place that is not the end. Its words are not asked for.
-fn take_line(log: &[u8], at: usize, words: &mut [u32]) -> LineTaken
+// The line at a place that is not the end, as it is taken, or none where it is blank; and the place after it. Its words are not asked for.
+fn taken_at(log: &[u8], at: usize, words: &mut [u32]) -> (Option<Taken>, usize)
     requires { at < length log.now }
-    ensures { Takes log.now at words.old words.new result }
+    ensures { TakenAt log.now at words.old words.new result }
 {
-    let b = line::bounds_at(log, at);
-    let next = b.next;
-    if b.cut == at {
-        return LineTaken {
+    let bounds = line::bounds_at(log, at);
+    if bounds.cut == at {
+        return (None, bounds.next);
+    }
+    let taken = intake::take(&log[at..bounds.cut], &mut [], words);
+    (Some(taken), bounds.next)
+}
+
+// What it counts as, and whether its row is complete.
+fn line_taken(line: Option<Taken>, next: usize) -> LineTaken
+    ensures { result ≡ record { sort = sort_in line; handed = is_handed (outcome_in line); next = next } }
+{
+    match line {
+        None => LineTaken {
             sort: Sort::Blank,
             handed: false,
             next,
-        };
-    }
-    match intake::take(&log[at..b.cut], &mut [], words) {
-        Ok(None) => LineTaken {
+        },
+        Some(Ok(None)) => LineTaken {
             sort: Sort::Accepted,
             handed: false,
             next,
         },
-        Ok(Some(g)) => LineTaken {
+        Some(Ok(Some(gsv))) => LineTaken {
             sort: Sort::Accepted,
-            handed: is_handed(g.outcome),
+            handed: is_handed(gsv.outcome),
             next,
         },
-        Err(_) => LineTaken {
+        Some(Err(_)) => LineTaken {
             sort: Sort::Refused,
             handed: false,
             next,
@@ -135,8 +143,22 @@ fn take_line(log: &[u8], at: usize, words: &mut [u32]) -> LineTaken
     }
 }
 
+// The line at a place, with the gatherer's words.
+fn take_line(log: &[u8], at: usize, words: &mut [u32]) -> LineTaken
+    requires { at < length log.now }
+    ensures { Takes log.now at words.old words.new result }
+{
+    let (line, next) = taken_at(log, at, words);
+    line_taken(line, next)
+}
+
 // At most `allowance` lines from a place on. The gatherer's words are changed in place.
-pub fn walk(log: &[u8], place: usize, allowance: usize, words: &mut [u32]) -> Result<Counts, Refusal>
+pub fn walk(
+    log: &[u8],
+    place: usize,
+    allowance: usize,
+    words: &mut [u32],
+) -> Result<Counts, Refusal>
     ensures { SaysWalk (walk_of log.now place allowance words.old) words.new result }
 {
     step::start(log, place)?;
@@ -151,37 +173,27 @@ pub fn walk(log: &[u8], place: usize, allowance: usize, words: &mut [u32]) -> Re
     Ok(c)
 }
 
+// The accepted GSV line that it is.
+fn gsv_in(line: Option<Taken>) -> Option<GsvLine>
+    ensures { result ≡ gsv_in line }
+{
+    match line {
+        Some(Ok(gsv)) => gsv,
+        _ => None,
+    }
+}
+
 // The same, where runs are kept by their heads: whether a group is handed out does not turn on entries, so none is read.
 fn count_line(log: &[u8], at: usize, heads: &mut [u32]) -> LineTaken
     requires { at < length log.now }
     ensures { TakesHead log.now at heads.old heads.new result }
 {
-    let b = line::bounds_at(log, at);
-    let next = b.next;
-    if b.cut == at {
-        return LineTaken {
-            sort: Sort::Blank,
-            handed: false,
-            next,
-        };
-    }
-    match intake::take(&log[at..b.cut], &mut [], &mut []) {
-        Ok(None) => LineTaken {
-            sort: Sort::Accepted,
-            handed: false,
-            next,
-        },
-        Ok(Some(GsvLine { talker, head, .. })) => LineTaken {
-            sort: Sort::Accepted,
-            handed: is_handed(run::count(heads, talker, head)),
-            next,
-        },
-        Err(_) => LineTaken {
-            sort: Sort::Refused,
-            handed: false,
-            next,
-        },
-    }
+    let (line, next) = taken_at(log, at, &mut []);
+    let Some(gsv) = gsv_in(line) else {
+        return line_taken(line, next);
+    };
+    let outcome = run::count(heads, gsv.talker, gsv.head);
+    line_taken(Some(Ok(Some(GsvLine { outcome, ..gsv }))), next)
 }
 
 // The whole log from its start, with a fresh gatherer, of which the heads of its runs are enough.

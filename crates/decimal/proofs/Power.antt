@@ -1,10 +1,16 @@
 -- Laws of 10 ^ k. Assumes nothing.
-use mathlib.Core.Path.{◌≡◌, sym, ap, ◌∙◌}
-use Prim.Native.Nat.{ℕ, ◌+◌, ◌-◌, ◌*◌, ◌^◌, ◌≤◌, ◌<◌, min}
-use native.Mathlib.Nat.{pow-le-pow_right, one-le-pow, mul_assoc, mul-lt-mul_of_pos_right}
+use mathlib.Core.Path.{◌≡◌, refl, sym, ap, ◌∙◌}
+use Prim.Native.Nat.{ℕ, zero, suc, ◌+◌, ◌-◌, ◌*◌, ◌^◌, ◌≤◌, ◌<◌, min}
+use native.Mathlib.Nat.{pow-succ', pow-le-pow_right, one-le-pow, mul_assoc, mul-lt-mul_of_pos_right}
 use lib.Pow.{pow-add}
+use native.Mathlib.Numerals.{sub-one}
 use native.Mathlib.Omega.{arith}
 use lib.Dec.{lit<}
+
+-- ten times the power below
+pub ten-times : (k : ℕ) → (k ≡ 0 → ⊥) → 10 * 10 ^ (k - 1) ≡ 10 ^ k
+ten-times zero h = absurd (h refl)
+ten-times (suc k) h = ap (λ (j : ℕ). 10 * 10 ^ j) (sub-one (suc k)) ∙ sym (pow-succ' 10 k)
 
 pub under : (k j : ℕ) → k ≤ j → 10 ^ k ≤ 10 ^ j
 under k j h = pow-le-pow_right (lit< tt) h

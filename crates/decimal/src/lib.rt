@@ -40,11 +40,22 @@ const LONG: Limits = Limits {
 // Ten to that power.
 const BILLION: u64 = 1000000000;
 
+// Ten to the power `k`: one, or ten times the power below, as the scope names the form.
+fn tens(k: u32) -> u64
+    requires { k ≤ 9 }
+    ensures { result ≡ 10 ^ k }
+{
+    if k == 0 {
+        return 1;
+    }
+    10 * tens(k - 1)
+}
+
 // Ten to the power `k`, up to the ninth, which stands for any above.
 pub fn pow10(k: u32) -> u64
     ensures { result ≡ 10 ^ min k 9 }
 {
-    10u64.pow(k.min(DECIMALS))
+    tens(k.min(DECIMALS))
 }
 
 // A run of digits: the number that it writes behind what stood before it, and how many there are.

@@ -1,5 +1,5 @@
 -- What each answer of the code says.
-use Rattle.std.specs.Prelude.{ℕ, ◌∷◌, Result, Ok, Err}
+use Rattle.std.specs.Prelude.{Result, Ok, Err}
 use Rattle.frame.specs.Answer.{talker_bytes, letters, refused}
 use Rattle.frame.specs.declared.refusal.Refusal.{Refusal}
 use Rattle.gsv.specs.Answer.{gsv_sentence}
@@ -8,7 +8,7 @@ use Rattle.rmc.specs.Answer.{rmc_data}
 use Rattle.gga.specs.Answer.{gga_data}
 use Rattle.gll.specs.Answer.{gll_data}
 use Rattle.vtg.specs.Answer.{vtg_data}
-use Rattle.answer.specs.Sentence.{Answer, is_rmc, is_gsa, is_gsv, is_gga, is_gll, is_vtg, is_other, is_refused, Sentence, OtherSentence, Formatter, rmc_type, gsa_type, gsv_type, gga_type, gll_type, vtg_type, other_type}
+use Rattle.answer.specs.Sentence.{Answer, is_rmc, is_gsa, is_gsv, is_gga, is_gll, is_vtg, is_other, is_refused, Sentence, Formatter, rmc_type, gsa_type, gsv_type, gga_type, gll_type, vtg_type, other_type}
 use Rattle.sentence.specs.declared.Message.{Message}
 use Rattle.sentence.specs.declared.Record.{Record}
 use Rattle.sentence.specs.declared.Record.TheVariants.{Rmc as ARmc, Gsa as AGsa, Gsv as AGsv, Gga as AGga, Gll as AGll, Vtg as AVtg, Other as AnOther}

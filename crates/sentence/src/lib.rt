@@ -3,11 +3,8 @@
 
 ghost use Rattle.std.specs.Prelude.{◌≡◌, ◌≤◌, length};
 ghost use Rattle.text.specs.Bytes.{bytes};
-ghost use Rattle.text.specs.Value.{value};
-ghost use Rattle.gsa.specs.Gsa.{gsa};
-ghost use Rattle.gsv.specs.Gsv.{gsv};
-ghost use Rattle.frame.specs.Answer.{letters, talker_bytes, parts};
-ghost use Rattle.answer.specs.Sentence.{as_gsa, as_gsv, gsv_of, gsa_of, or_refused, formatter_of, dispatch, answer, parse_as};
+ghost use Rattle.frame.specs.Answer.{letters, parts};
+ghost use Rattle.answer.specs.Sentence.{gsv_of, gsa_of, formatter_of, dispatch, answer, parse_as};
 ghost use Rattle.sentence.specs.Answer.{formatter, answer_of};
 
 use frame::{Kind, Refusal, Sentence, Talker};
@@ -77,6 +74,7 @@ pub enum Formatter {
     Other,
 }
 
+#[tactic(auto, unfolding(answer::specs::Sentence::formatter_of, frame::specs::Types::alike))]
 pub fn formatter_of(kind: Kind) -> Formatter
     ensures { formatter result ≡ formatter_of (letters kind) }
 {
@@ -92,6 +90,7 @@ pub fn formatter_of(kind: Kind) -> Formatter
 }
 
 // A framed sentence, by its type.
+#[tactic(auto, unfolding(answer::specs::Sentence::dispatch))]
 fn dispatch(s: &[u8], x: Sentence) -> Result<Record, Refusal>
     requires { x.to ≤ length s.now }
     ensures { answer_of result ≡ dispatch (parts s.now x) }
@@ -122,6 +121,7 @@ fn dispatch(s: &[u8], x: Sentence) -> Result<Record, Refusal>
 }
 
 // The answer to any byte string.
+#[tactic(auto, using(crate::proofs::Told::framed_within), unfolding(answer::specs::Sentence::answer))]
 pub fn parse_bytes(line: &[u8]) -> Result<Record, Refusal>
     ensures { answer_of result ≡ answer line.now }
 {
@@ -130,6 +130,7 @@ pub fn parse_bytes(line: &[u8]) -> Result<Record, Refusal>
 }
 
 // The answer to a line that must be of one type.
+#[tactic(auto, using(crate::proofs::Told::framed_within, crate::proofs::Told::alike_letters), unfolding(answer::specs::Sentence::parse_as))]
 fn parse_as(line: &[u8], kind: Kind) -> Result<Record, Refusal>
     ensures { answer_of result ≡ parse_as (letters kind) line.now }
 {

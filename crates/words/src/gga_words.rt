@@ -2,7 +2,6 @@
 ghost use Rattle.std.specs.Prelude.{◌≡◌, ◌≤◌, length};
 ghost use Rattle.std.proofs.Common.{rules};
 ghost use Rattle.std.proofs.lemmas.List.Edits.{sets};
-ghost use Rattle.gga.specs.Gga.{Gga};
 ghost use Rattle.gga.specs.Answer.{fix_of, height_of, gga_data};
 ghost use Rattle.words.specs.Gga.{fix_words, height_words, body_words, gga_words};
 ghost use Rattle.words.specs.Lengths.{gga-body};
@@ -55,15 +54,11 @@ fn put_height(out: &mut [u64], height: Height)
 impl Body for GgaData {
     ghost END = { 35 };
 
-    ghost Meaning = { Gga };
-
-    ghost meaning = { gga_data };
-
-    ghost words = { body_words };
+    ghost words = { λ d. body_words (gga_data d) };
 
     const END: usize = REST;
 
-    ghost long = { gga-body };
+    ghost long = { λ d. gga-body (gga_data d) };
 
     ghost within = { Prim.search rules };
 

@@ -1,7 +1,6 @@
 // A GLL sentence in words.
 ghost use Rattle.std.specs.Prelude.{◌≡◌};
 ghost use Rattle.std.proofs.Common.{rules};
-ghost use Rattle.gll.specs.Gll.{Gll};
 ghost use Rattle.gll.specs.Answer.{gll_data};
 ghost use Rattle.words.specs.Gll.{field_words, gll_words};
 ghost use Rattle.words.specs.Lengths.{gll-body};
@@ -27,15 +26,11 @@ const REST: usize = 19;
 impl Body for GllData {
     ghost END = { 19 };
 
-    ghost Meaning = { Gll };
-
-    ghost meaning = { gll_data };
-
-    ghost words = { field_words };
+    ghost words = { λ d. field_words (gll_data d) };
 
     const END: usize = REST;
 
-    ghost long = { gll-body };
+    ghost long = { λ d. gll-body (gll_data d) };
 
     ghost within = { Prim.search rules };
 

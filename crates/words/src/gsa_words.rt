@@ -1,7 +1,7 @@
 // A GSA sentence in words.
 ghost use Rattle.std.specs.Prelude.{ℕ, List, ◌≡◌, refl};
 ghost use Rattle.std.proofs.Common.{rules};
-ghost use Rattle.gsa.specs.Gsa.{Dops as DopsOf, Gsa};
+ghost use Rattle.gsa.specs.Gsa.{Dops as DopsOf};
 ghost use Rattle.gsa.specs.Answer.{three_dops, satellites_of, gsa_of};
 ghost use Rattle.words.specs.Part.{three_words};
 ghost use Rattle.words.specs.Gsa.{cell_words, body_words, gsa_words};
@@ -73,15 +73,11 @@ impl Words for Satellites {
 impl Body for GsaData {
     ghost END = { 38 };
 
-    ghost Meaning = { Gsa };
-
-    ghost meaning = { gsa_of };
-
-    ghost words = { body_words };
+    ghost words = { λ d. body_words (gsa_of d) };
 
     const END: usize = REST;
 
-    ghost long = { gsa-body };
+    ghost long = { λ d. gsa-body (gsa_of d) };
 
     ghost within = { Prim.search rules };
 

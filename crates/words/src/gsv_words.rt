@@ -2,7 +2,7 @@
 ghost use Rattle.std.specs.Prelude.{◌≡◌, ◌+◌, ◌≤◌, length};
 ghost use Rattle.std.proofs.Common.{rules};
 ghost use Rattle.std.proofs.lemmas.List.Edits.{sets};
-ghost use Rattle.gsv.specs.Gsv.{Satellite, GsvSentence};
+ghost use Rattle.gsv.specs.Gsv.{Satellite};
 ghost use Rattle.gsv.specs.Answer.{satellite, gsv_data, gsv_sentence};
 ghost use Rattle.words.specs.Gsv.{satellite_words, entries_words, body_words, gsv_words};
 ghost use Rattle.words.specs.Lengths.{satellite-seven, gsv-body};
@@ -72,15 +72,11 @@ fn put_entries(out: &mut [u64], g: GsvData)
 impl Body for GsvRecord {
     ghost END = { 39 };
 
-    ghost Meaning = { GsvSentence };
-
-    ghost meaning = { gsv_sentence };
-
-    ghost words = { body_words };
+    ghost words = { λ d. body_words (gsv_sentence d) };
 
     const END: usize = REST;
 
-    ghost long = { gsv-body };
+    ghost long = { λ d. gsv-body (gsv_sentence d) };
 
     ghost within = { Prim.search rules };
 

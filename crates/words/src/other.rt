@@ -1,5 +1,5 @@
 // A sentence of a known type that we do not read, in words.
-ghost use Rattle.std.specs.Prelude.{ℕ, List, ◌≡◌, ◌+◌};
+ghost use Rattle.std.specs.Prelude.{ℕ, ◌≡◌, ◌+◌};
 ghost use Rattle.std.proofs.Common.{ap, rules};
 ghost use Rattle.frame.specs.Answer.{letters};
 ghost use Rattle.words.specs.Part.{padded};
@@ -19,15 +19,11 @@ const REST: usize = 6;
 impl Body for Kind {
     ghost END = { 6 };
 
-    ghost Meaning = { List ℕ };
-
-    ghost meaning = { letters };
-
-    ghost words = { padded 3 };
+    ghost words = { λ k. padded 3 (letters k) };
 
     const END: usize = REST;
 
-    ghost long = { λ l. ap (λ (n : ℕ). 3 + n) (padded-long 3 l) };
+    ghost long = { λ k. ap (λ (n : ℕ). 3 + n) (padded-long 3 (letters k)) };
 
     ghost within = { Prim.search rules };
 

@@ -1,5 +1,5 @@
 // The parts of an answer, each written at a place of words that are lent. The caller has room for them.
-ghost use Rattle.std.specs.Prelude.{ℕ, List, [], ◌∷◌, ◌≡◌, ◌+◌, ◌≤◌, refl, length};
+ghost use Rattle.std.specs.Prelude.{ℕ, List, ◌≡◌, ◌+◌, ◌≤◌, refl, length};
 ghost use Rattle.std.proofs.Math.Option.{get_or};
 ghost use Rattle.std.proofs.lemmas.List.Edits.{sets};
 ghost use Rattle.text.specs.Answer.{held, held_as};

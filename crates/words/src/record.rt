@@ -37,27 +37,22 @@ pub(crate) trait Body: Copy {
     // Where the zeros begin.
     ghost END: { ℕ };
 
-    // What it means, and the words of that.
-    ghost Meaning: { Type 0 };
-
-    ghost meaning: { Self → Meaning };
-
-    ghost words: { Meaning → List ℕ };
+    ghost words: { Self → List ℕ };
 
     const END: usize;
 
     fn put_body(self, out: &mut [u64])
         requires { word_count ≤ length out.old }
-        ensures { out.new ≡ sets out.old 3 (words (meaning self)) };
+        ensures { out.new ≡ sets out.old 3 (words self) };
 
-    ghost long: { (m : Meaning) → 3 + length (words m) ≡ END };
+    ghost long: { (b : Self) → 3 + length (words b) ≡ END };
 
     ghost within: { END ≤ word_count };
 }
 
 // Puts an answer into the first 40 words, and nothing where there are fewer.
 pub(crate) fn put_record<B: Body>(out: &mut [u64], kind: u64, first: u64, second: u64, body: B)
-    ensures { out.new ≡ into (kind ∷ first ∷ second ∷ (B.words (B.meaning body) ++ zeros (word_count - B.END))) out.old }
+    ensures { out.new ≡ into (kind ∷ first ∷ second ∷ (B.words body ++ zeros (word_count - B.END))) out.old }
 {
     if out.len() < WORDS {
         return;
@@ -72,7 +67,7 @@ pub(crate) fn put_record<B: Body>(out: &mut [u64], kind: u64, first: u64, second
 
 // The same of a sentence, by its talker's letters.
 pub(crate) fn put_sentence<B: Body>(out: &mut [u64], kind: u64, talker: Talker, body: B)
-    ensures { out.new ≡ into (kind ∷ (padded 2 (talker_bytes talker) ++ (B.words (B.meaning body) ++ zeros (word_count - B.END)))) out.old }
+    ensures { out.new ≡ into (kind ∷ (padded 2 (talker_bytes talker) ++ (B.words body ++ zeros (word_count - B.END)))) out.old }
 {
     put_record(out, kind, u64::from(talker.0), u64::from(talker.1), body);
 }

@@ -1,7 +1,6 @@
 // A refusal in words.
 ghost use Rattle.std.specs.Prelude.{ℕ, ◌≡◌, ◌+◌, length};
 ghost use Rattle.std.proofs.Common.{ap, rules};
-ghost use Rattle.frame.specs.Refused.{Refused};
 ghost use Rattle.frame.specs.Answer.{refused};
 ghost use Rattle.words.specs.Part.{padded};
 ghost use Rattle.words.specs.Refused.{refused_words};
@@ -66,15 +65,11 @@ fn values_of(why: Refusal) -> [u64; MOST]
 impl Body for Refusal {
     ghost END = { 9 };
 
-    ghost Meaning = { Refused };
-
-    ghost meaning = { refused };
-
-    ghost words = { λ r. padded 6 r.carries };
+    ghost words = { λ r. padded 6 (refused r).carries };
 
     const END: usize = REST;
 
-    ghost long = { λ r. ap (λ (n : ℕ). 3 + n) (padded-long 6 r.carries) };
+    ghost long = { λ r. ap (λ (n : ℕ). 3 + n) (padded-long 6 (refused r).carries) };
 
     ghost within = { Prim.search rules };
 

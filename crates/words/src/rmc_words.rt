@@ -2,7 +2,6 @@
 ghost use Rattle.std.specs.Prelude.{◌≡◌, ◌≤◌, length};
 ghost use Rattle.std.proofs.lemmas.List.Edits.{sets};
 ghost use Rattle.std.proofs.Common.{rules};
-ghost use Rattle.rmc.specs.Rmc.{Rmc};
 ghost use Rattle.rmc.specs.Answer.{fix_of, motion_of, ending_of, rmc_data};
 ghost use Rattle.words.specs.Rmc.{fix_words, motion_words, ending_words, body_words, rmc_words};
 ghost use Rattle.words.specs.Words.{word_count, into};
@@ -68,15 +67,11 @@ fn put_ending(out: &mut [u64], ending: Ending)
 impl Body for RmcData {
     ghost END = { 39 };
 
-    ghost Meaning = { Rmc };
-
-    ghost meaning = { rmc_data };
-
-    ghost words = { body_words };
+    ghost words = { λ d. body_words (rmc_data d) };
 
     const END: usize = REST;
 
-    ghost long = { rmc-body };
+    ghost long = { λ d. rmc-body (rmc_data d) };
 
     ghost within = { Prim.search rules };
 

@@ -1,7 +1,7 @@
 // A VTG sentence in words.
 ghost use Rattle.std.specs.Prelude.{◌≡◌, refl};
 ghost use Rattle.std.proofs.Common.{rules};
-ghost use Rattle.vtg.specs.Vtg.{Speed as SpeedOf, Vtg};
+ghost use Rattle.vtg.specs.Vtg.{Speed as SpeedOf};
 ghost use Rattle.vtg.specs.Answer.{a_speed, vtg_data};
 ghost use Rattle.words.specs.Vtg.{unit_words, body_words, vtg_words};
 ghost use Rattle.words.specs.Lengths.{vtg-body};
@@ -49,15 +49,11 @@ impl Words for Speed {
 impl Body for VtgData {
     ghost END = { 15 };
 
-    ghost Meaning = { Vtg };
-
-    ghost meaning = { vtg_data };
-
-    ghost words = { body_words };
+    ghost words = { λ d. body_words (vtg_data d) };
 
     const END: usize = REST;
 
-    ghost long = { vtg-body };
+    ghost long = { λ d. vtg-body (vtg_data d) };
 
     ghost within = { Prim.search rules };
 

@@ -10,10 +10,10 @@ use Rattle.words.proofs.record.put_record.Goals as goal
 pub returns : goal.returns
 returns g c =
     let a = c.args in
-    let body = g.B.Body.words (g.B.Body.meaning a.body) in
+    let body = g.B.Body.words a.body in
     let end = g.B.Body.END in
     let ws = a.kind ∷ a.first ∷ a.second ∷ (body ++ zeros (word_count - end)) in
-    let long = g.met.B.Body.long (g.B.Body.meaning a.body) in
+    let long = g.met.B.Body.long a.body in
     let within = g.met.B.Body.within in
     let all : length ws ≡ word_count = simp (length-append, length-replicate) (omega arith) in
     whole ws a.out.now _ all (omega arith)

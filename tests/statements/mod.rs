@@ -17,10 +17,28 @@ pub struct Function {
 #[derive(Debug, PartialEq)]
 pub struct Parameter {
     pub name: String,
+    /// Its type, as it is written.
+    pub kind: String,
+}
+
+impl Parameter {
+    /// What it lends, and whether to be written; none of what is handed over.
+    pub fn lends(&self) -> Option<(&str, bool)> {
+        let lent = self.kind.strip_prefix('&')?;
+        let lent = match lent.strip_prefix('\'') {
+            Some(lifetime) => lifetime.split_once(' ')?.1,
+            None => lent,
+        };
+        Some(match lent.strip_prefix("mut ") {
+            Some(written) => (written, true),
+            None => (lent, false),
+        })
+    }
+
     /// A `&mut`, whose contents after the call are an answer too.
-    pub written: bool,
-    /// A `&`, whose contents are as they were.
-    pub lent: bool,
+    fn is_written(&self) -> bool {
+        self.lends().is_some_and(|(_, written)| written)
+    }
 }
 
 impl Function {
@@ -92,17 +110,15 @@ fn declared(text: &str) -> Option<Function> {
         .map(str::trim)
         .filter(|parameter| !parameter.is_empty())
         .map(|parameter| {
-            let (name, kind) = parameter.split_once(':').unwrap_or((parameter, ""));
-            let kind = kind.trim();
-            let written = kind.starts_with("&mut");
+            // `self` has no type beside it
+            let (name, kind) = parameter.split_once(':').unwrap_or((parameter, parameter));
             Parameter {
                 name: name
                     .trim()
                     .trim_start_matches('&')
                     .trim_start_matches("mut ")
                     .into(),
-                written,
-                lent: kind.starts_with('&') && !written,
+                kind: kind.trim().into(),
             }
         })
         .collect();
@@ -294,7 +310,7 @@ pub fn contract(function: &Function, renamed: &[Renamed]) -> Result<Contract, St
     let ensures = function.ensures.as_deref().ok_or("has no `ensures`")?;
 
     let mut said = words(ensures);
-    // What is lent comes back as it was: no fact about the answer.
+    // What a struct holds comes back as it was: no fact about the answer.
     let kept: Vec<Words> = split_words(&said, "×")
         .into_iter()
         .filter(|fact| !comes_back(fact))
@@ -310,7 +326,8 @@ pub fn contract(function: &Function, renamed: &[Renamed]) -> Result<Contract, St
             answers.push((*name).to_owned());
         }
     }
-    for Parameter { name, written, .. } in &function.parameters {
+    for parameter in &function.parameters {
+        let (name, written) = (&parameter.name, parameter.is_written());
         let parts: Vec<&Renamed> = renamed
             .iter()
             .filter(|(part, _)| is_of(part, name))
@@ -319,10 +336,10 @@ pub fn contract(function: &Function, renamed: &[Renamed]) -> Result<Contract, St
             given.extend(parts.iter().map(|(_, new)| (*new).to_owned()));
             continue;
         }
-        let before = if *written { "old" } else { "now" };
+        let before = if written { "old" } else { "now" };
         said = replaced(&said, &words(&format!("{name}.{before}")), name);
         given.push(name.to_owned());
-        if *written {
+        if written {
             let after = after.next().ok_or("it writes more than two slices")?;
             said = replaced(&said, &words(&format!("{name}.new")), after);
             answers.push((*after).to_owned());
@@ -347,13 +364,13 @@ fn is_of(part: &str, name: &str) -> bool {
     part.split('.').next() == Some(name)
 }
 
-/// `x.now ≡ x.now`, or `x.exit.y.now ≡ x.entry.y.now` of what it holds.
+/// `x.exit.y.now ≡ x.entry.y.now`
 fn comes_back(fact: &[String]) -> bool {
-    let sides = split_words(&bare(fact), "≡");
-    let [[after], [before]] = [&sides[0][..], sides.get(1).map_or(&[], |side| &side[..])] else {
+    let fact = bare(fact);
+    let [after, is, before] = &fact[..] else {
         return false;
     };
-    after.ends_with(".now") && after.replace(".exit.", ".entry.") == *before
+    is == "≡" && after.contains(".exit.") && after.replace(".exit.", ".entry.") == *before
 }
 
 /// What a theorem of `crates/only` states.

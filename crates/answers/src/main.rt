@@ -30,9 +30,8 @@ fn answer<W: Write>(output: &mut W, line: &[u8]) -> io::Result<()> {
 // Fills a part; none where the input ends before it is full.
 fn fill<R: Read>(input: &mut R, part: &mut [u8]) -> io::Result<Option<()>> {
     match input.read_exact(part) {
-        Ok(()) => Ok(Some(())),
         Err(why) if why.kind() == ErrorKind::UnexpectedEof => Ok(None),
-        Err(why) => Err(why),
+        filled => filled.map(Some),
     }
 }
 

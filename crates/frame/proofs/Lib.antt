@@ -1,4 +1,5 @@
 pub mod Texts
+pub mod Ranges
 pub mod Sums
 pub mod Xor
 pub mod Units

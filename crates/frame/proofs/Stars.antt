@@ -1,12 +1,12 @@
 -- Whether a byte stands in a part, a byte at a time; and where no `*` stands before a `*`, the text up to the first one ends there. Assumes nothing.
-use Prim.Native.Nat.{ℕ, ◌+◌, ◌-◌, ◌≤◌, ◌<◌, min}
+use Prim.Native.Nat.{ℕ, ◌+◌, ◌≤◌, ◌<◌, min}
 use native.Mathlib.Omega.{arith}
 use mathlib.Core.Path.{◌≡◌, refl, ap, sym, ◌∙◌}
 use mathlib.Core.Bool.{Bool, true, false, cond, ◌||◌}
 use mathlib.Core.List.{List, [], ◌∷◌, ◌++◌}
 use lib.Dec.{eqb}
 use lib.ListN.{length, take, drop, get_or, length-take, take-append-drop}
-use lib.Seq.{slice, drop-append-le, take-add, drop_at, length-take-le}
+use lib.Seq.{slice, drop-append-le}
 use borrow.Author.Tests.{eq-eqb, ne_eqb, eqb-true, eqb-false}
 use Rattle.text.specs.Bytes.{byte}
 use Rattle.text.specs.Reader.{got, among, until}
@@ -50,13 +50,6 @@ module _ (s : List ℕ) (i to : ℕ) where
   cut h k =
       let g : i ≤ length (take to s) = simp length-take (omega arith) in
       ap (drop i) (sym (take-append-drop to s)) ∙ drop-append-le i (take to s) (drop to s) g
-
-  -- a part as the code lends it
-  pub lent : i ≤ to → to ≤ length s → slice i to s ≡ take (to - i) (drop i s)
-  lent h k =
-      let e : i + (to - i) ≡ to = omega arith in
-      let g : length (take i s) ≡ i = length-take-le i s (omega arith) in
-      sym (ap (λ (n : ℕ). slice i n s) e) ∙ ap (drop i) (take-add i (to - i) s) ∙ drop_at (take i s) (take (to - i) (drop i s)) i g
 
   pub ends-there : i ≤ to → to < length s → get_or s to 0 ≡ byte "*" → among (byte "*") (slice i to s) ≡ false
       → until (byte "*") (drop i s) ≡ got (slice i to s) (drop to s)

@@ -7,29 +7,19 @@ use mathlib.Core.List.{List, [], ◌∷◌}
 use mathlib.Core.Bool.{Bool, true, false, ◌&&◌, cond}
 use lib.Dec.{leb, ltb}
 use lib.ListN.{length}
-use borrow.Author.Tests.{lt-ltb, le-ltb, le-leb, lt-leb, leb-true, eq-eqb, ne_eqb}
+use borrow.Author.Tests.{leb-true}
 use Rattle.short.specs.Digits.{digits_of}
 use Rattle.short.proofs.Digits.{digit-one}
 use Rattle.short.proofs.Texts.{entry-length}
 use Rattle.pack.specs.Cut.{more, piece_count}
 use Rattle.gsv.specs.Gsv.{Satellite}
 use Rattle.rows.specs.Leave.{entry_size}
-use Rattle.gather.specs.Words.{number_of, sat_at, sats_from}
+use Rattle.gather.specs.Words.{sat_at, sats_from}
 use Rattle.gather.specs.Code.{Digits, OptDigits, Sized, put_on}
 use Rattle.gather.specs.declared.lent.Pile.{Pile}
 
 pub one : (n : ℕ) → n < 10 → length (digits_of n) ≡ 1
 one n h = ap length (digit-one n h)
-
-pub put-here : (p : Pile) (w room : ℕ) → p.count < 4 → p.used + w ≤ room
-    → record { lines = p.lines; count = p.count + 1; used = p.used + w } ≡ put_on p w room
-put-here p w room h k = simp (lt-ltb p.count 4 h, le-leb (p.used + w) room k)
-
-pub put-full : (p : Pile) (w room : ℕ) → 4 ≤ p.count → record { lines = p.lines + 1; count = 1; used = w } ≡ put_on p w room
-put-full p w room h = simp (le-ltb p.count 4 h)
-
-pub put-over : (p : Pile) (w room : ℕ) → p.count < 4 → room < p.used + w → record { lines = p.lines + 1; count = 1; used = w } ≡ put_on p w room
-put-over p w room h k = simp (lt-ltb p.count 4 h, lt-leb (p.used + w) room k)
 
 -- the pile after an entry, and those that are left
 put-more : (p : Pile) (s : Satellite) (ss : List Satellite) (room : ℕ)
@@ -64,12 +54,6 @@ small-put i p w room h k l = by (ltb p.count 4) (leb (p.used + w) room) refl
         record { lines = omega (arith, h.lines); used = omega arith }
     by true false e = record { lines = omega (arith, h.lines); used = omega arith }
     by false b e = record { lines = omega (arith, h.lines); used = omega arith }
-
-pub no-digits : (x : ℕ) → x ≡ 4294967295 → OptDigits (number_of x) 0
-no-digits x e = rw (eq-eqb x 4294967295 e) (record { count = refl; few = omega arith })
-
-pub its-digits : (x r : ℕ) → (x ≡ 4294967295 → ⊥) → Digits x r → OptDigits (number_of x) r
-its-digits x r e d = rw (ne_eqb x 4294967295 e) (record { count = d.count; few = d.few })
 
 pub sized : (s : Satellite) (a b c d : ℕ) → Digits s.id a → OptDigits s.elevation b → OptDigits s.azimuth c
     → OptDigits s.signal d → Sized s (a + b + c + d + 4)

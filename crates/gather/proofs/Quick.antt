@@ -139,6 +139,9 @@ pub record Head (ws : List ℕ) : Type 0 where
   pub high : get_or ws 0 0 ≤ 9
   pub view : get_or ws 2 0 ≤ 65535
 
+pub may-stand : (ws : List ℕ) → length ws ≡ 148 → 2 ≤ get_or ws 1 0 → get_or ws 1 0 ≤ get_or ws 0 0 → get_or ws 0 0 ≤ 9 → get_or ws 2 0 ≤ 65535 → Head ws
+may-stand ws a b c d e = record { long = a; begun = b; open' = c; high = d; view = e }
+
 abbrev sats : List ℕ → List Satellite
 sats ws = sats_from 0 (get_or ws 3 0) ws
 

@@ -120,8 +120,9 @@ fn all_short(row: &[u32], count: usize) -> bool
     requires cells { count ≤ cell_count }
     ensures { result ≡ all_within short_max short_max (sats_from 0 count row.now) }
 {
-    let mut i = 0;
-    while i + ENTRIES <= count {
+    let lines = count / ENTRIES;
+    for line in 0..lines {
+        let i = line * ENTRIES;
         let bits = cell_bits(row, i)
             | cell_bits(row, i + 1)
             | cell_bits(row, i + 2)
@@ -129,13 +130,11 @@ fn all_short(row: &[u32], count: usize) -> bool
         if SHORT < bits {
             return false;
         }
-        i += ENTRIES;
     }
-    while i < count {
+    for i in lines * ENTRIES..count {
         if SHORT < cell_bits(row, i) {
             return false;
         }
-        i += 1;
     }
     true
 }

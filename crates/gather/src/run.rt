@@ -10,7 +10,7 @@ use crate::{lent, table};
 use gsv::{GsvHead, GsvTalker};
 
 // n, the number waited for, 0 where no run stands, and the in-view count.
-#[derive(Clone, Copy)]
+#[derive(Clone, Copy, Debug, PartialEq, Eq)]
 pub struct Run {
     pub n: u32,
     pub next: u32,
@@ -18,7 +18,7 @@ pub struct Run {
 }
 
 // A run after a line, and what the line did.
-#[derive(Clone, Copy)]
+#[derive(Clone, Copy, Debug, PartialEq, Eq)]
 pub struct RunAfter {
     pub run: Run,
     pub handed: Outcome,

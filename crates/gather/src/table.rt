@@ -17,7 +17,7 @@ pub const ROWS: usize = 6;
 pub const WORDS: usize = ROWS * lent::ROW;
 
 // What a run, and so a group, is gathered from.
-#[derive(Clone, Copy)]
+#[derive(Clone, Copy, Debug, PartialEq, Eq)]
 pub struct Source {
     pub system: GnssType,
 }

@@ -31,7 +31,7 @@ pub fn nmea_sentence<'a>(line: &'a [u8], framed: Sentence) -> NmeaSentence<'a>
     ensures talker { result.talker ≡ framed.talker }
     ensures kind { result.kind ≡ framed.kind }
     ensures checksum { result.checksum ≡ framed.checksum }
-    ensures data { result.data.now ≡ data_of framed line.now }
+    ensures text { result.data.now ≡ data_of framed line.now }
 {
     NmeaSentence {
         talker: framed.talker,
@@ -44,7 +44,7 @@ pub fn nmea_sentence<'a>(line: &'a [u8], framed: Sentence) -> NmeaSentence<'a>
 impl<'a> NmeaSentence<'a> {
     // The data handed back.
     pub fn data(self) -> &'a [u8]
-        ensures data { result ≡ self.entry.data }
+        ensures part { result ≡ self.entry.data }
         ensures unchanged { self.exit.data.now ≡ self.entry.data.now }
     {
         self.data

@@ -7,7 +7,8 @@ use Rattle.text.specs.Bytes.{byte}
 use Rattle.text.specs.Reader.{among}
 use Rattle.text.proofs.Letters.{among-any}
 use Rattle.text.proofs.Places.{a-read}
-use Rattle.frame.proofs.Stars.{lent, ends-there}
+use Rattle.frame.proofs.Ranges.{lent}
+use Rattle.frame.proofs.Stars.{ends-there}
 use Rattle.frame.proofs.star.star.Goals as goal
 
 pub returns-then-not-contains : goal.returns-then-not-contains

@@ -3,10 +3,10 @@ use Prim.Native.Nat.{ℕ, ◌+◌, ◌*◌, ◌≤◌}
 use native.Mathlib.Omega.{arith}
 use mathlib.Core.Path.{◌≡◌, refl, ap, sym, ◌∙◌}
 use mathlib.Core.List.{List, [], ◌++◌}
-use mathlib.Core.Bool.{Bool, true, false, ◌&&◌, true≢false, cond, and-eq-true_iff}
+use mathlib.Core.Bool.{Bool, true, false, ◌&&◌, cond, and-eq-true_iff}
 use mathlib.Core.Option.{Option, none, some, none-ne-some}
 use Rattle.std.specs.Prelude.{Option as Maybe, Some}
-use borrow.Author.Tests.{eq-eqb, ne_eqb, le-leb, eqb-true}
+use borrow.Author.Tests.{eq-eqb, ne_eqb, eqb-true}
 use lib.Dec.{eqb, leb}
 use lib.ListN.{length, get_or, set}
 use lib.Seq.{sets}
@@ -70,11 +70,6 @@ module _ (ws : List ℕ) (n k v : ℕ) where
   abbrev head : Head
   head = record { count = n; index = k; view = v }
 
-  stands-run : stands ws ≡ true → run_stands run ≡ true
-  stands-run e =
-      let p = (passes (open_of ws)).0 ((and-eq-true_iff (eqb (length ws) 148) _).0 e).1 in
-      λ j. le-leb 2 (get_or ws 1 0) p.begun j && (le-leb (get_or ws 1 0) (get_or ws 0 0) p.open' j && le-leb (get_or ws 0 0) 9 p.high j)
-
   -- the three numbers are the run's, and the row stands
   record OnRow : Type 0 where
     n-is : eqb n (get_or ws 0 0) ≡ true
@@ -89,35 +84,7 @@ module _ (ws : List ℕ) (n k v : ℕ) where
       let (c, d) = (and-eq-true_iff (eqb v (get_or ws 2 0)) _).0 g in
       record { n-is = a; next-is = b; view-is = c; stood = d }
 
-  refuted : (on_row ws n k v ≡ true → ⊥) → on_row ws n k v ≡ false
-  refuted h = by (on_row ws n k v) refl
-    where
-      by : (b : Bool) → on_row ws n k v ≡ b → b ≡ false
-      by true e = absurd (h e)
-      by false e = refl
-
-  pub no-run : runs_on run head ≡ false → sofar (meant ws) (headed n k v) ≡ none
-  no-run e = by (eqb k 1) refl e
-    where
-      by : (one : Bool) → eqb k 1 ≡ one → cond one (leb 1 n && leb n 9) (run_stands run && (eqb n (get_or ws 0 0) && (eqb k (get_or ws 1 0) && eqb v (get_or ws 2 0)))) ≡ false
-          → sofar (meant ws) (headed n k v) ≡ none
-      by true z f = λ j. cond (z j) (cond (f j) (some []) none) (onward (meant ws) (headed n k v))
-      by false z f =
-          answers (λ q. true≢false (sym (eq-eqb k 1 q) ∙ z)) false
-          (refuted (λ t. let o = on-row t in
-          true≢false (sym (λ j. stands-run o.stood j && (o.n-is j && (o.next-is j && o.view-is j))) ∙ f)))
-
-  pub starts : runs_on run head ≡ true → k ≡ 1 → sofar (meant ws) (headed n k v) ≡ some []
-  starts e one =
-      let z : eqb k 1 ≡ true = eq-eqb k 1 one in
-      let f : (leb 1 n && leb n 9) ≡ true =
-      sym (λ j. cond (z j) (leb 1 n && leb n 9) (run_stands run && (eqb n (get_or ws 0 0) && (eqb k (get_or ws 1 0) && eqb v (get_or ws 2 0))))) ∙ e in
-      λ j. cond (z j) (cond (f j) (some []) none) (onward (meant ws) (headed n k v))
-
   module _ (more : k ≡ 1 → ⊥) where
-    pub no-row-run : stands ws ≡ false → sofar (meant ws) (headed n k v) ≡ none
-    no-row-run s = answers more false (refuted (λ t. true≢false (sym (on-row t).stood ∙ s)))
-
     pub goes : runs_on run head ≡ true → stands ws ≡ true
         → ◌≡◌ {A = Maybe ℕ} (Some (get_or ws 3 0)) (before_of (sofar (meant ws) (headed n k v)))
     goes e s =

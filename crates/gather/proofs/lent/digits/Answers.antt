@@ -3,18 +3,12 @@ use mathlib.Core.Path.{◌≡◌}
 use native.Mathlib.Omega.{arith}
 use lib.ListN.{length}
 use Rattle.short.specs.Digits.{digits_of}
-use Rattle.short.proofs.Digits.{few-digits, some-digit, count-tenth}
+use Rattle.short.proofs.Digits.{few-digits, count-tenth}
 use Rattle.gather.proofs.Greedy.{one}
 use Rattle.gather.proofs.lent.digits.Goals as goal
 
 pub loop-n-init : goal.loop-n-init
 loop-n-init c = (omega arith, few-digits c.args.x 10 (omega arith) (omega arith))
-
-pub overflow_add-k : goal.overflow_add-k
-overflow_add-k c = omega (arith, some-digit c.loop-n.n)
-
-pub loop-n-smaller : goal.loop-n-smaller
-loop-n-smaller c = omega arith
 
 pub loop-n-preserved : goal.loop-n-preserved
 loop-n-preserved c = (omega (arith, count-tenth c.loop-n.n (omega arith)), c.loop-n.invariant.1)

@@ -81,6 +81,7 @@ fn take_gsv(line: &[u8], x: Sentence, out: &mut [u64], table: &mut [u32]) -> Tak
 }
 
 // A framed sentence, by its type. A refusal is not in words yet.
+#[tactic(auto, unfolding(answer::specs::Sentence::dispatch))]
 fn dispatch(line: &[u8], x: Sentence, out: &mut [u64], table: &mut [u32]) -> Taken
     requires { x.to ≤ length line.now }
     ensures { Tells (dispatch (parts line.now x)) out.old out.new table.old table.new result }
@@ -113,6 +114,7 @@ fn dispatch(line: &[u8], x: Sentence, out: &mut [u64], table: &mut [u32]) -> Tak
     }
 }
 
+#[tactic(auto, using(sentence::proofs::Told::framed_within), unfolding(answer::specs::Sentence::answer))]
 fn tell(line: &[u8], out: &mut [u64], table: &mut [u32]) -> Taken
     ensures { Tells (answer line.now) out.old out.new table.old table.new result }
 {

@@ -143,13 +143,10 @@ fn all_short(row: &[u32], count: usize) -> bool
 fn digits(x: u32) -> usize
     ensures { Digits x result }
 {
-    let mut n = x;
-    let mut k: usize = 1;
-    while 10 <= n {
-        n = n / 10;
-        k += 1;
+    match x.checked_ilog10() {
+        None => 1,
+        Some(power) => power as usize + 1,
     }
-    k
 }
 
 fn opt_digits(x: u32) -> usize

@@ -9,6 +9,7 @@ use mathlib.Core.Bool.{Bool, true, false, ◌&&◌, cond}
 use lib.Dec.{leb, ltb}
 use lib.ListN.{length}
 use borrow.Author.Tests.{leb-true}
+use Rattle.std.specs.Prelude.{Option, Some, None, IfNone, IfSome, MatchOption}
 use Rattle.short.specs.Digits.{digits_of}
 use Rattle.short.proofs.Digits.{digit-one, count-tenth}
 use Rattle.short.proofs.Texts.{entry-length}
@@ -30,11 +31,11 @@ power-digits (suc k) n a b =
     let y = one-le-pow k 10 (omega arith) in
     omega (arith, count-tenth n (omega arith), power-digits k (n / 10) (omega arith) (omega arith))
 
-pub power-counts : (x k : ℕ) → 10 ^ k ≤ x → x < 10 * 10 ^ k → k < 10 → Digits x (k + 1)
-power-counts x k a b h = record { count = sym (power-digits k x a b); few = omega arith }
-
-pub zero-counts : (x : ℕ) → x ≡ 0 → Digits x 1
-zero-counts x h = record { count = sym (one x (omega arith)); few = omega arith }
+-- so the power's count decides
+pub counted : (x r : ℕ) (o : Option ℕ) (P : ℕ → Type 0) → ((k : ℕ) → P k → r ≡ k + 1) → IfNone o (x ≡ 0) → IfSome o (λ k. 10 ^ k ≤ x)
+    → IfSome o (λ k. x < 10 * 10 ^ k) → IfSome o (λ k. k < 10) → MatchOption o (r ≡ 1) P → Digits x r
+counted x r (Some k) P f z a b h e = record { count = f k e ∙ sym (power-digits k x a b); few = omega (arith, f k e) }
+counted x r None P f z a b h e = record { count = e ∙ sym (one x (omega arith)); few = omega arith }
 
 -- the pile after an entry, and those that are left
 put-more : (p : Pile) (s : Satellite) (ss : List Satellite) (room : ℕ)

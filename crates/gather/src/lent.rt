@@ -139,14 +139,11 @@ fn all_short(row: &[u32], count: usize) -> bool
     true
 }
 
-// How many digits the shortest text of a number has.
+// How many digits the shortest text of a number has. 0 has no logarithm, and one digit.
 fn digits(x: u32) -> usize
     ensures { Digits x result }
 {
-    match x.checked_ilog10() {
-        None => 1,
-        Some(power) => power as usize + 1,
-    }
+    x.checked_ilog10().map_or(1, |power| power as usize + 1)
 }
 
 fn opt_digits(x: u32) -> usize

@@ -1,9 +1,9 @@
 -- `digits` meets its contract: a digit more than the power of ten has zeros. Assumes nothing.
-use Rattle.gather.proofs.Greedy.{power-counts, zero-counts}
+use Rattle.std.proofs.Common.{rules}
+use Rattle.gather.proofs.Greedy.{counted}
 use Rattle.gather.proofs.lent.digits.Goals as goal
 
-pub returns-in-None : goal.returns-in-None
-returns-in-None c = zero-counts c.args.x c.in-None.ensures.none
-
-pub returns-in-Some : goal.returns-in-Some
-returns-in-Some c = power-counts c.args.x c.in-Some.power c.in-Some.ensures.power_le c.in-Some.ensures.next_power_gt c.in-Some.ensures.bound
+pub returns : goal.returns
+returns c =
+    let p = c.checked_ilog10.ensures in
+    counted c.args.x c.map_or.result c.checked_ilog10.result _ (λ k e. search rules) p.none p.power_le p.next_power_gt p.bound c.map_or.ensures

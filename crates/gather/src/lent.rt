@@ -201,9 +201,9 @@ fn pile_on(p: Pile, w: usize, room: usize) -> Pile
         };
     }
     Pile {
-        lines: p.lines,
         count: p.count + 1,
-        used: used,
+        used,
+        ..p
     }
 }
 

@@ -1,5 +1,6 @@
 -- Greedy packing of a row's cells, a cell at a time. Assumes nothing.
-use Prim.Native.Nat.{ℕ, suc, ◌+◌, ◌-◌, ◌≤◌, ◌<◌}
+use Prim.Native.Nat.{ℕ, suc, ◌+◌, ◌-◌, ◌*◌, ◌/◌, ◌^◌, ◌≤◌, ◌<◌}
+use native.Mathlib.Nat.{pow-zero, pow-suc, one-le-pow}
 use native.Mathlib.Omega.{arith}
 use native.Mathlib.Numerals.{add-one}
 use mathlib.Core.Path.{◌≡◌, refl, ap, sym, ◌∙◌}
@@ -8,8 +9,9 @@ use mathlib.Core.Bool.{Bool, true, false, ◌&&◌, cond}
 use lib.Dec.{leb, ltb}
 use lib.ListN.{length}
 use borrow.Author.Tests.{leb-true}
+use Rattle.std.specs.Prelude.{Option, Some, None, IfNone, IfSome, MatchOption}
 use Rattle.short.specs.Digits.{digits_of}
-use Rattle.short.proofs.Digits.{digit-one}
+use Rattle.short.proofs.Digits.{digit-one, count-tenth}
 use Rattle.short.proofs.Texts.{entry-length}
 use Rattle.pack.specs.Cut.{more, piece_count}
 use Rattle.gsv.specs.Gsv.{Satellite}
@@ -18,8 +20,22 @@ use Rattle.gather.specs.Words.{sat_at, sats_from}
 use Rattle.gather.specs.Code.{Digits, OptDigits, Sized, put_on}
 use Rattle.gather.specs.declared.lent.Pile.{Pile}
 
-pub one : (n : ℕ) → n < 10 → length (digits_of n) ≡ 1
+one : (n : ℕ) → n < 10 → length (digits_of n) ≡ 1
 one n h = ap length (digit-one n h)
+
+-- a number from a power of ten up, and below the next, has a digit more than the power has zeros
+power-digits : (k n : ℕ) → 10 ^ k ≤ n → n < 10 * 10 ^ k → length (digits_of n) ≡ k + 1
+power-digits ℕ.zero n a b = one n (omega (arith, pow-zero 10))
+power-digits (suc k) n a b =
+    let z = pow-suc 10 k in
+    let y = one-le-pow k 10 (omega arith) in
+    omega (arith, count-tenth n (omega arith), power-digits k (n / 10) (omega arith) (omega arith))
+
+-- so the power's count decides
+pub counted : (x r : ℕ) (o : Option ℕ) (P : ℕ → Type 0) → ((k : ℕ) → P k → r ≡ k + 1) → IfNone o (x ≡ 0) → IfSome o (λ k. 10 ^ k ≤ x)
+    → IfSome o (λ k. x < 10 * 10 ^ k) → IfSome o (λ k. k < 10) → MatchOption o (r ≡ 1) P → Digits x r
+counted x r (Some k) P f z a b h e = record { count = f k e ∙ sym (power-digits k x a b); few = omega (arith, f k e) }
+counted x r None P f z a b h e = record { count = e ∙ sym (one x (omega arith)); few = omega arith }
 
 -- the pile after an entry, and those that are left
 put-more : (p : Pile) (s : Satellite) (ss : List Satellite) (room : ℕ)

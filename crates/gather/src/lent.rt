@@ -5,6 +5,9 @@ ghost use Rattle.rows.specs.Leave.{upto, entry_size, space};
 ghost use Rattle.gather.specs.Words.{row_words, cell_count, number_of, sat_at, sats_from, stands};
 ghost use Rattle.gather.specs.Code.{sat_within, all_within, short_max, raised, sat_bits, Digits, OptDigits, Sized, put_on, Puts};
 
+use crate::run;
+use crate::run::Run;
+
 // The words of a row: its head, and a cell of four words for each entry of nine lines of four.
 pub const ROW: usize = HEAD + CELLS * CELL;
 
@@ -139,17 +142,11 @@ fn all_short(row: &[u32], count: usize) -> bool
     true
 }
 
-// How many digits the shortest text of a number has.
+// How many digits the shortest text of a number has. 0 has no logarithm, and one digit.
 fn digits(x: u32) -> usize
     ensures { Digits x result }
 {
-    let mut n = x;
-    let mut k: usize = 1;
-    while 10 <= n {
-        n = n / 10;
-        k += 1;
-    }
-    k
+    x.checked_ilog10().map_or(1, |power| power as usize + 1)
 }
 
 fn opt_digits(x: u32) -> usize
@@ -204,9 +201,9 @@ fn pile_on(p: Pile, w: usize, room: usize) -> Pile
         };
     }
     Pile {
-        lines: p.lines,
         count: p.count + 1,
-        used: used,
+        used,
+        ..p
     }
 }
 
@@ -236,32 +233,28 @@ pub fn row_stands(row: &[u32]) -> bool
     if row.len() != ROW {
         return false;
     }
-    let next = row[NEXT];
-    if next < 2 {
+    let run = Run {
+        n: row[N],
+        next: row[NEXT],
+        view: row[VIEW],
+    };
+    if !run::stands(run) {
         return false;
     }
-    let n = row[N];
-    if n < next {
-        return false;
-    }
-    if LINES < n {
-        return false;
-    }
-    let view = row[VIEW];
-    if gsv::COUNT_MAX < view {
+    if gsv::COUNT_MAX < run.view {
         return false;
     }
     let count = row[COUNT] as usize;
     if CELLS < count {
         return false;
     }
-    let came = next as usize - 1;
+    let came = run.next as usize - 1;
     if all_short(row, count) {
         return count <= ENTRIES * came;
     }
     if !all_within(row, count, gsv::ID_MAX, gsv::PLACE_MAX) {
         return false;
     }
-    let k = pieces(row, view, count);
+    let k = pieces(row, run.view, count);
     k <= came
 }

@@ -25,7 +25,7 @@ pub struct RunAfter {
 }
 
 // Whether a line can leave this run.
-fn stands(run: Run) -> bool
+pub(crate) fn stands(run: Run) -> bool
     ensures { result ≡ run_stands run }
 {
     if run.next < 2 {

@@ -27,7 +27,7 @@ pub fn source_of(t: GsvTalker) -> Source
     ensures { source result ≡ source_from (talker t) }
 {
     let system = gsv::gnss_type(t);
-    Source { system: system }
+    Source { system }
 }
 
 // The row of a source.

@@ -71,14 +71,13 @@ fn skip(log: &[u8], at: usize) -> usize
 fn line_end(log: &[u8], at: usize) -> usize
     ensures { result ≡ at + length (stretch (drop at log.now)) }
 {
-    let mut i = skip(log, at);
-    while i < log.len() {
+    let from = skip(log, at);
+    for i in from..log.len() {
         if log[i] == b'\n' {
             return i;
         }
-        i += 1;
     }
-    i
+    from.max(log.len())
 }
 
 // The line's end without a carriage return before it.

@@ -14,7 +14,7 @@ use gather::run;
 use intake::{GsvLine, Taken};
 
 // What was counted, and the place where the next line begins.
-#[derive(Clone, Copy, Debug, PartialEq, Eq)]
+#[derive(Clone, Copy, Debug, Default, PartialEq, Eq)]
 pub struct Counts {
     pub lines: usize,
     pub blank: usize,
@@ -45,12 +45,8 @@ fn counts_at(place: usize) -> Counts
     ensures { result ≡ record { lines = 0; blank = 0; accepted = 0; refused = 0; groups = 0; next = place } }
 {
     Counts {
-        lines: 0,
-        blank: 0,
-        accepted: 0,
-        refused: 0,
-        groups: 0,
         next: place,
+        ..Counts::default()
     }
 }
 

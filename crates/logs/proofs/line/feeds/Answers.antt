@@ -1,11 +1,7 @@
 -- `feeds` meets its contract: while none was seen, the line goes on behind the bytes looked at. Assumes nothing.
-use Rattle.std.proofs.Common.{◌≡◌, ◌+◌, ◌<◌, length, drop, ap, ◌∙◌, arith}
-use Rattle.lines.specs.Places.{stretch}
-use Rattle.logs.proofs.Blocks.{block-long, block-byte, clear-none, clear-more}
+use Rattle.std.proofs.Common.{◌<◌, ◌∙◌, arith}
+use Rattle.logs.proofs.Blocks.{block-long, block-byte, clear-more}
 use Rattle.logs.proofs.line.feeds.Goals as goal
-
-pub loop-b-init : goal.loop-b-init
-loop-b-init c = λ e. clear-none c.args.log.now c.args.at
 
 pub loop-b-preserved : goal.loop-b-preserved
 loop-b-preserved c =
@@ -16,8 +12,3 @@ loop-b-preserved c =
     λ e.
     let (f, n) = c.saw-feed.ensures e in
     clear-more l at i (omega (arith, c.requires)) (λ q. n (block-byte l at 16 i h ∙ q)) (c.loop-b.invariant f)
-
-pub returns : goal.returns
-returns c =
-    let z : c.loop-b.b-index ≡ 16 = omega (arith, c.loop-b.auto.b-index-end, c.loop-b-test.false, block-long c.args.log.now c.args.at 16 c.requires) in
-    λ e. c.loop-b.invariant e ∙ ap (λ k. k + length (stretch (drop (c.args.at + k) c.args.log.now))) z

@@ -1,11 +1,6 @@
 -- `count_line` meets its contract: the core takes the line without a table, and a GSV line's head goes on with the run of its row. Assumes nothing.
-use Rattle.logs.proofs.Taken.{quiet-counted, gsv-counted}
+use Rattle.logs.proofs.Taken.{gsv-counted}
 use Rattle.logs.proofs.walk.count_line.Goals as goal
-
-pub returns-in_default : goal.returns-in_default
-returns-in_default c =
-    let t = c.taken_at-line in
-    quiet-counted c.args.log.now c.args.at t.result.0 t.result.1 t.ensures c.in_default.ensures c.line_taken.ensures
 
 pub returns : goal.returns
 returns c =

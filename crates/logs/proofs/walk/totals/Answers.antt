@@ -3,7 +3,7 @@ use Rattle.std.proofs.Common.{length}
 use Rattle.gather.specs.Table.{fresh_table}
 use Rattle.logs.proofs.Start.{no-bar, handed-on}
 use Rattle.logs.proofs.Answers.{walk-barred}
-use Rattle.logs.proofs.Counting.{counting-first, counts-within, few-groups, further, after-turn, counted-all}
+use Rattle.logs.proofs.Counting.{counting-first, further, after-turn, counted-all}
 use Rattle.logs.proofs.walk.totals.Goals as goal
 
 pub returns-in_err-start : goal.returns-in_err-start
@@ -13,14 +13,6 @@ returns-in_err-start c =
 
 pub loop-c-init : goal.loop-c-init
 loop-c-init c = counting-first c.args.log.now (no-bar c.args.log.now 0 c.in_ok-start.ensures).0 c.counts_at-c.ensures
-
-pub tally-requires : goal.tally-requires
-tally-requires c =
-    counts-within c.args.log.now c.loop-c.heads c.loop-c.c c.loop-c.invariant c.loop-c-test.true
-
-pub with_group-c-requires : goal.with_group-c-requires
-with_group-c-requires c =
-    few-groups c.args.log.now c.loop-c.heads c.loop-c.c c.loop-c.invariant c.loop-c-test.true _ c.count_line-t.result c.count_line-t.ensures c.tally.result c.tally.ensures
 
 pub loop-c-smaller : goal.loop-c-smaller
 loop-c-smaller c =

@@ -2,7 +2,7 @@
 use Rattle.std.proofs.Common.{◌<◌, sym, ap, subst, arith}
 use Rattle.logs.specs.declared.walk.Counts.{Counts}
 use Rattle.logs.proofs.Start.{no-bar, handed-on}
-use Rattle.logs.proofs.Goes.{Goes, goes-first, fit-within, few-groups, line-more, after-turn}
+use Rattle.logs.proofs.Goes.{Goes, goes-first, line-more, after-turn}
 use Rattle.logs.proofs.Answers.{walk-barred, walk-used, walk-ended}
 use Rattle.logs.proofs.walk.walk.Goals as goal
 
@@ -19,16 +19,6 @@ loop-init c =
           (goes-first a.log.now a.place a.allowance a.words.now short place),
       ap (λ (x : Counts). x.lines) c.counts_at-c.ensures,
     )
-
-pub tally-requires : goal.tally-requires
-tally-requires c =
-    fit-within c.args.log.now c.loop.c c.loop.invariant.0.fit c.loop.invariant.0.short
-
-pub with_group-c-requires : goal.with_group-c-requires
-with_group-c-requires c =
-    let a = c.args in
-    few-groups a.log.now a.place a.allowance a.words.now c.loop.c c.loop.words c.loop.invariant.0 (omega (arith, c.loop.invariant.1)) c.if-log-c.false _
-    c.take_line-t.result c.take_line-t.ensures c.tally.result c.tally.ensures
 
 pub loop-preserved : goal.loop-preserved
 loop-preserved c =

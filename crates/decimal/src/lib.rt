@@ -97,6 +97,7 @@ fn ends(s: &[u8], at: usize) -> bool
 }
 
 // A decimal place without its sign: its digits as one number, and how many of them stand after the point.
+#[inline(always)]
 fn unsigned_place(s: &[u8], at: usize, limits: Limits) -> Parsed<Option<Run>>
     requires before { limits.before ≤ limits.all }
     requires all { limits.all ≤ 19 }
@@ -144,7 +145,8 @@ struct Decimal {
     decimals: u32,
 }
 
-// A decimal place. A sign stands before digits, and not by itself.
+// A decimal place. A sign stands before digits, and not by itself. The compiler makes a reader of it for each length.
+#[inline(always)]
 fn decimal_place(s: &[u8], at: usize, limits: Limits) -> Parsed<Option<Decimal>>
     requires before { limits.before ≤ limits.all }
     requires all { limits.all ≤ 19 }

@@ -6,7 +6,7 @@ use mathlib.Core.Path.{◌≡◌, refl, ap, sym, ◌∙◌}
 use mathlib.Core.List.{List, [], ◌∷◌, ◌++◌, append_assoc}
 use mathlib.Core.Bool.{Bool, true, false, cond}
 use mathlib.Core.Option.{Option, none, some}
-use borrow.Author.Tests.{eq-eqb, eqb-true, eqb-false, ltb-true, ltb-false}
+use borrow.Author.Tests.{eq-eqb, ne_eqb, eqb-true, eqb-false, ltb-true, ltb-false}
 use lib.Dec.{eqb, ltb}
 use lib.ListN.{length, get_or, take, drop, replicate, length-set, length-take, length-drop}
 use lib.Seq.{sets, sets-eq, length-sets, ext_get_or, get_or-take, get_or-drop, drop-drop}
@@ -52,6 +52,15 @@ after-long ws g = by (eqb (length ws) 148) (sofar (meant ws) g)
     by false x = refl
 
 -- the code's part of the table
+-- the code's part of the table: one of another length is left as it is
+pub no-table : (t : List ℕ) (g : Gsv Satellite) → (length t ≡ table_words → ⊥) → Gathers t t g NoRow
+no-table t g h =
+    let e : false ≡ eqb (length t) table_words = sym (ne_eqb (length t) table_words h) in
+    record {
+      words = λ j. cond (e j) (sets t (g.key * 148) (row_after (row_of t g.key) g)) t;
+      says = λ j. cond (e j) (outcome_of (row_of t g.key) g) NoRow;
+    }
+
 row-long : (t : List ℕ) (κ : ℕ) → κ * 148 + 148 ≤ length t → length (row_of t κ) ≡ 148
 row-long t κ h = simp (length-take, length-drop) (omega arith)
 

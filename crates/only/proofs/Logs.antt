@@ -11,8 +11,8 @@ use Rattle.fed.specs.Line.{read, accepted_gsv}
 use Rattle.logs.specs.Step.{step_of}
 use Rattle.logs.specs.Walk.{walk_of}
 use Rattle.logs.specs.Answer.{line_in, Follows, step_in, handed_in, SaysStep, walk_in, SaysWalk}
-use Rattle.logs.specs.declared.step.Step.{Step}
-use Rattle.logs.specs.declared.step.Step.TheVariants.{End, Line}
+use Rattle.logs.specs.declared.step.Stepped.{Stepped}
+use Rattle.logs.specs.declared.step.Stepped.TheVariants.{End, Line}
 use Rattle.logs.specs.declared.walk.Counts.{Counts}
 use Rattle.only.proofs.Laws.{same, TellsApart, tells}
 use Rattle.only.proofs.Frame.{refusal-apart}
@@ -25,7 +25,7 @@ line-one (Some a) None e = cc
 line-one (Some a) (Some b) e = ap Some (answer-apart.one cc)
 
 -- by its line and place, and what it says of the row
-step-one : (r q : Result Step Refusal) → step_in r ≡ step_in q → handed_in r ≡ handed_in q → r ≡ q
+step-one : (r q : Result Stepped Refusal) → step_in r ≡ step_in q → handed_in r ≡ handed_in q → r ≡ q
 step-one (Ok (End a)) (Ok (End b)) e h = cc
 step-one (Ok (Line l o a)) (Ok (Line m p b)) e h =
     let s : l ≡ m = line-one l m cc in
@@ -53,7 +53,7 @@ pub follow : (answer : Result Record Refusal) (words : List ℕ) {l m : List ℕ
     → (r ≡ q) × (l ≡ m)
 follow answer words x y = (same x.says y.says, same x.words y.words)
 
-pub step : (log : List ℕ) (place : ℕ) (words : List ℕ) {l m : List ℕ} {r q : Result Step Refusal}
+pub step : (log : List ℕ) (place : ℕ) (words : List ℕ) {l m : List ℕ} {r q : Result Stepped Refusal}
     → SaysStep (step_of log place words) l r
     → SaysStep (step_of log place words) m q
     → (r ≡ q) × (l ≡ m)

@@ -6,6 +6,7 @@ use Case::{Step, Walk};
 use frame::Refusal;
 use gather::line::Outcome;
 use gather::{lent, table};
+use logs::step::Stepped;
 use logs::walk::Counts;
 use logs::{step, walk};
 use std::io;
@@ -99,14 +100,10 @@ fn tell_group(rt: &impl Print, table: &Table) -> io::Result<()> {
 }
 
 // A line and the next place, or the end and its place; and the group, where the line hands one out.
-fn tell_step(
-    rt: &impl Print,
-    stepped: Result<step::Step, Refusal>,
-    table: &Table,
-) -> io::Result<()> {
+fn tell_step(rt: &impl Print, stepped: Result<Stepped, Refusal>, table: &Table) -> io::Result<()> {
     match stepped {
-        Ok(step::Step::End(place)) => print!(rt; " end {place}"),
-        Ok(step::Step::Line(_, outcome, next)) => {
+        Ok(Stepped::End(place)) => print!(rt; " end {place}"),
+        Ok(Stepped::Line(_, outcome, next)) => {
             print!(rt; " line {next}")?;
             if let Outcome::Complete = outcome {
                 tell_group(rt, table)?;

@@ -101,12 +101,12 @@ fn tell_group(rt: &impl Print, table: &Table) -> io::Result<()> {
 // A line and the next place, or the end and its place; and the group, where the line hands one out.
 fn tell_step(
     rt: &impl Print,
-    stepped: Result<step::Step, Refusal>,
+    stepped: Result<step::Stepped, Refusal>,
     table: &Table,
 ) -> io::Result<()> {
     match stepped {
-        Ok(step::Step::End(place)) => print!(rt; " end {place}"),
-        Ok(step::Step::Line(_, outcome, next)) => {
+        Ok(step::Stepped::End(place)) => print!(rt; " end {place}"),
+        Ok(step::Stepped::Line(_, outcome, next)) => {
             print!(rt; " line {next}")?;
             if let Outcome::Complete = outcome {
                 tell_group(rt, table)?;

@@ -181,25 +181,57 @@ fn every_public_function_has_a_contract_and_demands_nothing() {
     all_agree(wrong);
 }
 
+/// What public functions write into.
+const OUTPUTS: [&str; 5] = ["out", "table", "row", "heads", "words"];
+
+/// What is lent to be read: the type promises that it stays as it is.
+const LENT: [&str; 2] = ["[u8]", "[u32]"];
+
 #[test]
-fn every_contract_says_that_lent_bytes_are_unchanged() {
-    let mut wrong = vec![];
-    let mut lent = 0;
-    for found in public_functions() {
-        let said = found.function.ensures.clone().unwrap_or_default();
-        for parameter in found.function.parameters.iter().filter(|p| p.lent) {
-            lent += 1;
-            let name = &parameter.name;
-            let unchanged = format!("{name}.now ≡ {name}.now");
-            if !said.contains(&unchanged) {
-                wrong.push(format!(
-                    "{}: expected `{unchanged}` in its `ensures`",
+fn what_is_lent_to_be_read_is_a_shared_slice() {
+    let (mut wrong, mut outputs, mut lent) = (vec![], BTreeSet::new(), 0);
+    let exported = functions_of(static_libraries());
+    for found in public_functions().into_iter().chain(exported) {
+        for parameter in &found.function.parameters {
+            let Parameter { name, kind } = parameter;
+            match parameter.lends() {
+                Some((_, true)) if OUTPUTS.contains(&&name[..]) => {
+                    outputs.insert(name.clone());
+                }
+                Some((what, false)) if LENT.contains(&what) => lent += 1,
+                None if !kind.contains('&') => {}
+                _ => wrong.push(format!(
+                    "{}: `{name}: {kind}` is neither a slice to be read nor an output",
                     found.shown()
-                ));
+                )),
             }
         }
     }
     assert!(lent > 0, "no public function is lent anything");
+    all_agree(wrong);
+    assert_eq!(outputs, OUTPUTS.map(str::to_owned).into(), "OUTPUTS");
+}
+
+/// The facts `x.now ≡ x.now`, which the type of `x` promises.
+fn said_by_the_type(source: &str) -> Vec<String> {
+    let words = words(source);
+    let facts = words
+        .windows(3)
+        .filter(|fact| fact[1] == "≡" && fact[0] == fact[2] && fact[0].ends_with(".now"));
+    facts.map(|fact| fact.join(" ")).collect()
+}
+
+#[test]
+fn no_clause_says_what_the_type_promises() {
+    let mut wrong = vec![];
+    for name in files("crates", "") {
+        let folder = format!("crates/{name}/src");
+        for file in files(&folder, ".rt") {
+            let file = format!("{folder}/{file}.rt");
+            let facts = said_by_the_type(&read(&file)).into_iter();
+            wrong.extend(facts.map(|fact| format!("{file}: the type promises `{fact}`")));
+        }
+    }
     all_agree(wrong);
 }
 
@@ -547,36 +579,58 @@ pub fn bare_one() -> u8 {
             ("bare_one", "bare-one".to_owned(), false, None),
         ]
     );
-    let parameter = |name: &str, written, lent| Parameter {
-        name: name.into(),
-        written,
-        lent,
-    };
-    assert_eq!(
-        one("pub fn f(mut a: u8, out: &mut [u64], s: &[u8]) -> u8 {").parameters,
-        [
-            parameter("a", false, false),
-            parameter("out", true, false),
-            parameter("s", false, true)
-        ]
-    );
+}
+
+#[test]
+fn parameters_are_found_with_what_they_lend() {
+    for (declared, expected) in [
+        (
+            "mut a: u8, out: &mut [u64], s: &[u8]",
+            [
+                ("a", None),
+                ("out", Some(("[u64]", true))),
+                ("s", Some(("[u8]", false))),
+            ],
+        ),
+        (
+            "a: Result<u8, Refusal>, g: fn(u8) -> u8, s: &'a [u8]",
+            [("a", None), ("g", None), ("s", Some(("[u8]", false)))],
+        ),
+        (
+            "&mut self, t: &'a mut [u8], b: Option<&[u8]>",
+            [
+                ("self", Some(("self", true))),
+                ("t", Some(("[u8]", true))),
+                ("b", None),
+            ],
+        ),
+    ] {
+        let function = one(&format!("pub fn f({declared}) -> u8 {{"));
+        let found: Vec<_> = function
+            .parameters
+            .iter()
+            .map(|parameter| (&parameter.name[..], parameter.lends()))
+            .collect();
+        assert_eq!(found, expected, "{declared}");
+    }
+}
+
+#[test]
+fn what_the_type_promises_is_told() {
+    let clause = "ensures { (result ≡ f s.now) × (s.now ≡ s.now) × (s.now ≡ t.now) }";
+    assert_eq!(said_by_the_type(clause), ["s.now ≡ s.now"]);
 }
 
 #[test]
 fn contracts_are_brought_to_the_words_of_theorems() {
     for (clause, parts, expected, answers) in [
         (
-            "Reads s.now at (char b) (next result) × (s.now ≡ s.now)",
+            "Finds s.now at (char b) next result",
             &[][..],
-            "Reads s at ( char b ) ( next r )",
+            "Finds s at ( char b ) next r",
             &["r"][..],
         ),
-        (
-            "(result.now ≡ f s.now) × (s.now ≡ s.now)",
-            &[],
-            "r ≡ f s",
-            &["r"],
-        ),
+        ("result.now ≡ f s.now", &[], "r ≡ f s", &["r"]),
         (
             "Filled s.now out.old out.new result",
             &[],
@@ -589,11 +643,17 @@ fn contracts_are_brought_to_the_words_of_theorems() {
             "x ≡ at × y ≡ f s",
             &["x", "y"],
         ),
-        // what is lent and comes back otherwise is said
+        // what a struct holds comes back as it was; otherwise it is said
         (
-            "(result ≡ at) × (s.now ≡ f s.now)",
+            "(result ≡ at) × (at.exit.b.now ≡ at.entry.b.now)",
             &[],
-            "r ≡ at × s ≡ f s",
+            "r ≡ at",
+            &["r"],
+        ),
+        (
+            "(result ≡ at) × (at.exit.b.now ≡ at.entry.c.now)",
+            &[],
+            "r ≡ at × at.exit.b.now ≡ at.entry.c.now",
             &["r"],
         ),
     ] {
@@ -613,7 +673,7 @@ fn differ(theorem: &str) -> Vec<String> {
     let code = "\
 ghost use Rattle.a.specs.Spec.{f, g};
 pub fn f(s: &[u8], at: usize) -> u8
-    ensures { (result ≡ f s.now at) × (s.now ≡ s.now) }
+    ensures { result ≡ f s.now at }
 {
 ";
     let source = format!(

@@ -69,20 +69,22 @@ fn defined() -> BTreeMap<String, u64> {
         .collect()
 }
 
+const RECORD: &str = "crates/words/src/record.rt";
 const GSV: &str = "crates/words/src/gsv_words.rt";
 const ROW: &str = "crates/gather/src/lent.rt";
 
 /// Constants that the code has too: the source, how their names in the header
 /// begin, and the rest of each, with the code's own name behind `=` where that
 /// is another.
-const IN_CODE: [(&str, &str, &str); 19] = [
+const IN_CODE: [(&str, &str, &str); 20] = [
     ("crates/capi/src/lib.rt", "NMEA_", "DONE UNDONE"),
     ("crates/words/src/lib.rt", "NMEA_", "WORDS"),
     (
-        "crates/words/src/part.rt",
+        RECORD,
         "NMEA_",
-        "KIND TALKER RMC GSA GSV OTHER REFUSED GGA GLL VTG",
+        "KIND TALKER=FIRST RMC GSA GSV OTHER REFUSED GGA GLL VTG",
     ),
+    (RECORD, "NMEA_REFUSED_", "NUMBER=FIRST COUNT=SECOND"),
     (
         "crates/words/src/rmc_words.rt",
         "NMEA_RMC_",
@@ -91,7 +93,7 @@ const IN_CODE: [(&str, &str, &str); 19] = [
     (
         "crates/words/src/gsa_words.rt",
         "NMEA_GSA_",
-        "MODE FIX SYSTEM DOPS COUNT SATELLITES",
+        "MODE FIX SYSTEM DOPS COUNT",
     ),
     (GSV, "NMEA_GSV_", "SYSTEM SENTENCES NUMBER VIEW ENTRIES"),
     (
@@ -107,15 +109,11 @@ const IN_CODE: [(&str, &str, &str); 19] = [
     (
         "crates/words/src/gll_words.rt",
         "NMEA_GLL_",
-        "POSITION TIME STATUS",
+        "POSITION TIME STATUS MODE",
     ),
     ("crates/words/src/vtg_words.rt", "NMEA_VTG_", "COURSE SPEED"),
     ("crates/words/src/other.rt", "NMEA_OTHER_", "TYPE"),
-    (
-        "crates/words/src/refused.rt",
-        "NMEA_REFUSED_",
-        "NUMBER COUNT VALUES",
-    ),
+    ("crates/words/src/refused.rt", "NMEA_REFUSED_", "VALUES"),
     ("crates/capi/src/totals.rt", "NMEA_", "TOTALS"),
     (
         "crates/capi/src/totals.rt",
@@ -143,21 +141,26 @@ const IN_CODE: [(&str, &str, &str); 19] = [
 
 const PARTS: &str = "crates/words/specs/Part.antt";
 
-/// Places that the code has no name for: a definition, in which the words of a
-/// part stand in their order; how their names in the header begin; the place
-/// that they are counted from, if that has a name; and the rest of each name,
-/// `-` for a word without one.
-const IN_DEFINITIONS: [(&str, &str, &str, &str, &str); 13] = [
+/// A part that may be absent: a word that is 1, and its own words.
+const PRESENT: &str = "present n words (some x) = 1 ∷ words x";
+
+/// Places that the code has no name for: a definition of one line or more, in
+/// which the words of a part stand in their order; how their names in the
+/// header begin; the place that they are counted from, if that has a name; and
+/// the rest of each name, `-` for a word without one.
+const IN_DEFINITIONS: [(&str, &str, &str, &str, &str); 14] = [
     (
         PARTS,
-        "time_words (some t) = 1 ∷ t.hour ∷ t.minute ∷ t.second ∷ t.nanosecond ∷ []",
+        "clock_words t = t.hour ∷ t.minute ∷ t.second ∷ t.nanosecond ∷ []
+time_words t = present 4 clock_words t",
         "NMEA_TIME_",
         "",
         "- HOUR MINUTE SECOND NANOSECOND",
     ),
     (
         PARTS,
-        "date_words (some d) = 1 ∷ d.year ∷ d.month ∷ d.day ∷ []",
+        "day_words d = d.year ∷ d.month ∷ d.day ∷ []
+date_words d = present 3 day_words d",
         "NMEA_DATE_",
         "",
         "- YEAR MONTH DAY",
@@ -176,27 +179,9 @@ const IN_DEFINITIONS: [(&str, &str, &str, &str, &str); 13] = [
         "",
         "SIGN SIZE LETTER DEGREES",
     ),
-    (
-        PARTS,
-        "position_words (some p) = 1 ∷ (coordinate_words p.lat ++ coordinate_words p.lon)",
-        "NMEA_RMC_",
-        "POSITION",
-        "- LATITUDE - - - LONGITUDE - - -",
-    ),
-    (
-        PARTS,
-        "position_words (some p) = 1 ∷ (coordinate_words p.lat ++ coordinate_words p.lon)",
-        "NMEA_GGA_",
-        "POSITION",
-        "- LATITUDE - - - LONGITUDE - - -",
-    ),
-    (
-        "crates/words/specs/Gll.antt",
-        "field_words g = position_words g.position ++ (time_words g.time ++ (g.status ∷ get_or g.mode 0 ∷ []))",
-        "NMEA_GLL_",
-        "POSITION",
-        "- LATITUDE - - - LONGITUDE - - - - - - - - - MODE",
-    ),
+    (PARTS, POSITION, "NMEA_RMC_", "POSITION", COORDINATES),
+    (PARTS, POSITION, "NMEA_GGA_", "POSITION", COORDINATES),
+    (PARTS, POSITION, "NMEA_GLL_", "POSITION", COORDINATES),
     (
         PARTS,
         "dop_words d = signed_words d.whole ++ (d.decimals ∷ bits32 d.value ∷ [])",
@@ -206,28 +191,38 @@ const IN_DEFINITIONS: [(&str, &str, &str, &str, &str); 13] = [
     ),
     (
         PARTS,
-        "short_words (some d) = 1 ∷ dop_words d",
+        "short_words d = present 4 dop_words d",
         "NMEA_DECIMAL_",
         "",
         "- SIGN SIZE DECIMALS VALUE",
     ),
     (
         "crates/words/specs/Vtg.antt",
-        "speed_words (some s) = 1 ∷ s.unit ∷ (dop_words s.written ++ (bits32 s.knots ∷ []))",
+        "unit_words s = s.unit ∷ (dop_words s.written ++ (bits32 s.knots ∷ []))
+speed_words s = present 6 unit_words s",
         "NMEA_SPEED_",
         "",
         "- UNIT SIGN SIZE DECIMALS VALUE KNOTS",
     ),
     (
         PARTS,
-        "dops_words (some d) = 1 ∷ (dop_words d.pdop ++ (dop_words d.hdop ++ dop_words d.vdop))",
+        "three_words d = dop_words d.pdop ++ (dop_words d.hdop ++ dop_words d.vdop)
+dops_words d = present 12 three_words d",
         "NMEA_GSA_",
         "DOPS",
         "- PDOP - - - HDOP - - - VDOP - - -",
     ),
     (
+        "crates/words/specs/Gsa.antt",
+        "cell_words satellites = length satellites ∷ padded kept satellites",
+        "NMEA_GSA_",
+        "COUNT",
+        "- SATELLITES",
+    ),
+    (
         PARTS,
-        "option_words (some n) = 1 ∷ n ∷ []",
+        "number_words n = n ∷ []
+option_words n = present 1 number_words n",
         "NMEA_OPTION_",
         "",
         "- NUMBER",
@@ -240,6 +235,19 @@ const IN_DEFINITIONS: [(&str, &str, &str, &str, &str); 13] = [
         "SATELLITE ELEVATION AZIMUTH SIGNAL",
     ),
 ];
+
+/// A position, wherever it stands.
+const POSITION: &str = "both_words p = coordinate_words p.lat ++ coordinate_words p.lon
+position_words p = present 8 both_words p";
+const COORDINATES: &str = "- LATITUDE - - - LONGITUDE - - -";
+
+/// Whether a file has each line of a definition.
+fn defines(file: &str, definition: &str) -> bool {
+    let source = read(file);
+    definition
+        .lines()
+        .all(|line| source.lines().any(|there| there == line))
+}
 
 /// A constant of a source: a number, or a sum of products of constants.
 fn constant(file: &str, name: &str) -> u64 {
@@ -285,9 +293,9 @@ fn every_constant_is_held() {
             held.insert(format!("{start}{name}"), constant(file, code));
         }
     }
+    assert!(defines(PARTS, PRESENT), "{PARTS}: expected {PRESENT}");
     for (file, definition, start, from, names) in IN_DEFINITIONS {
-        let is_there = read(file).lines().any(|line| line == definition);
-        assert!(is_there, "{file}: expected {definition}");
+        assert!(defines(file, definition), "{file}: expected {definition}");
         let from = held.get(&format!("{start}{from}")).copied().unwrap_or(0);
         for (place, name) in (from..).zip(names.split(' ')) {
             if name != "-" {

@@ -14,7 +14,7 @@ use repository::{read, root};
 /// The names that a file of definitions, proofs or code defines: of the first
 /// word behind such words as `pub`, if a type or a parameter follows it.
 fn defined(source: &str) -> BTreeSet<&str> {
-    const BEFORE: [&str; 11] = [
+    const BEFORE: [&str; 13] = [
         "pub",
         "pub(crate)",
         "abbrev",
@@ -25,6 +25,8 @@ fn defined(source: &str) -> BTreeSet<&str> {
         "struct",
         "enum",
         "const",
+        "type",
+        "ghost",
         "extern \"C\"",
     ];
     source

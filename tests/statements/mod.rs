@@ -17,10 +17,28 @@ pub struct Function {
 #[derive(Debug, PartialEq)]
 pub struct Parameter {
     pub name: String,
+    /// Its type, as it is written.
+    pub kind: String,
+}
+
+impl Parameter {
+    /// What it lends, and whether to be written; none of what is handed over.
+    pub fn lends(&self) -> Option<(&str, bool)> {
+        let lent = self.kind.strip_prefix('&')?;
+        let lent = match lent.strip_prefix('\'') {
+            Some(lifetime) => lifetime.split_once(' ')?.1,
+            None => lent,
+        };
+        Some(match lent.strip_prefix("mut ") {
+            Some(written) => (written, true),
+            None => (lent, false),
+        })
+    }
+
     /// A `&mut`, whose contents after the call are an answer too.
-    pub written: bool,
-    /// A `&`, whose contents are as they were.
-    pub lent: bool,
+    fn is_written(&self) -> bool {
+        self.lends().is_some_and(|(_, written)| written)
+    }
 }
 
 impl Function {
@@ -92,17 +110,15 @@ fn declared(text: &str) -> Option<Function> {
         .map(str::trim)
         .filter(|parameter| !parameter.is_empty())
         .map(|parameter| {
-            let (name, kind) = parameter.split_once(':').unwrap_or((parameter, ""));
-            let kind = kind.trim();
-            let written = kind.starts_with("&mut");
+            // `self` has no type beside it
+            let (name, kind) = parameter.split_once(':').unwrap_or((parameter, parameter));
             Parameter {
                 name: name
                     .trim()
                     .trim_start_matches('&')
                     .trim_start_matches("mut ")
                     .into(),
-                written,
-                lent: kind.starts_with('&') && !written,
+                kind: kind.trim().into(),
             }
         })
         .collect();
@@ -168,14 +184,16 @@ fn without_comments(source: &str, sign: &str) -> String {
         .collect()
 }
 
-/// The parts of a text between separators that stand in no bracket.
+/// The parts of a text between separators that stand in no bracket, nor
+/// between a type's arguments.
 fn split_outside<'a>(text: &'a str, separator: &str) -> Vec<&'a str> {
     let mut parts = vec![];
     let (mut depth, mut start) = (0, 0);
     for (at, letter) in text.char_indices() {
         match letter {
-            '(' | '{' | '[' => depth += 1,
-            ')' | '}' | ']' => depth -= 1,
+            '(' | '{' | '[' | '<' => depth += 1,
+            '>' if text[..at].ends_with('-') => {}
+            ')' | '}' | ']' | '>' => depth -= 1,
             _ if depth == 0 && text[at..].starts_with(separator) => {
                 parts.push(&text[start..at]);
                 start = at + separator.len();
@@ -292,7 +310,7 @@ pub fn contract(function: &Function, renamed: &[Renamed]) -> Result<Contract, St
     let ensures = function.ensures.as_deref().ok_or("has no `ensures`")?;
 
     let mut said = words(ensures);
-    // What is lent comes back as it was: no fact about the answer.
+    // What a struct holds comes back as it was: no fact about the answer.
     let kept: Vec<Words> = split_words(&said, "×")
         .into_iter()
         .filter(|fact| !comes_back(fact))
@@ -308,7 +326,8 @@ pub fn contract(function: &Function, renamed: &[Renamed]) -> Result<Contract, St
             answers.push((*name).to_owned());
         }
     }
-    for Parameter { name, written, .. } in &function.parameters {
+    for parameter in &function.parameters {
+        let (name, written) = (&parameter.name, parameter.is_written());
         let parts: Vec<&Renamed> = renamed
             .iter()
             .filter(|(part, _)| is_of(part, name))
@@ -317,10 +336,10 @@ pub fn contract(function: &Function, renamed: &[Renamed]) -> Result<Contract, St
             given.extend(parts.iter().map(|(_, new)| (*new).to_owned()));
             continue;
         }
-        let before = if *written { "old" } else { "now" };
+        let before = if written { "old" } else { "now" };
         said = replaced(&said, &words(&format!("{name}.{before}")), name);
         given.push(name.to_owned());
-        if *written {
+        if written {
             let after = after.next().ok_or("it writes more than two slices")?;
             said = replaced(&said, &words(&format!("{name}.new")), after);
             answers.push((*after).to_owned());
@@ -345,13 +364,13 @@ fn is_of(part: &str, name: &str) -> bool {
     part.split('.').next() == Some(name)
 }
 
-/// `x.now ≡ x.now`, or `x.exit.y.now ≡ x.entry.y.now` of what it holds.
+/// `x.exit.y.now ≡ x.entry.y.now`
 fn comes_back(fact: &[String]) -> bool {
-    let sides = split_words(&bare(fact), "≡");
-    let [[after], [before]] = [&sides[0][..], sides.get(1).map_or(&[], |side| &side[..])] else {
+    let fact = bare(fact);
+    let [after, is, before] = &fact[..] else {
         return false;
     };
-    after.ends_with(".now") && after.replace(".exit.", ".entry.") == *before
+    is == "≡" && after.contains(".exit.") && after.replace(".exit.", ".entry.") == *before
 }
 
 /// What a theorem of `crates/only` states.
@@ -492,6 +511,12 @@ pub fn names(source: &str) -> Names {
     found
 }
 
+/// The library, by whatever module.
+const LIBRARY: &str = "library";
+
+/// What a contract may name that its file does not import, as its code does.
+const IN_SCOPE: [&str; 4] = ["Ok", "Err", "Some", "None"];
+
 /// The library hands the same words on by several modules, code and theorems take them from others.
 fn handed_on(module: &str) -> &str {
     let same = [
@@ -508,7 +533,7 @@ fn handed_on(module: &str) -> &str {
             .is_some_and(|rest| rest.is_empty() || rest.starts_with('.'))
     };
     if same.iter().any(|of| is_in(&of)) {
-        "library"
+        LIBRARY
     } else {
         module
     }
@@ -523,6 +548,9 @@ impl Names {
             }
             if let Some(full) = self.names.get(word) {
                 return full.clone();
+            }
+            if IN_SCOPE.contains(&word.as_str()) {
+                return format!("{LIBRARY}.{word}");
             }
             match word.split_once('.') {
                 Some((module, name)) if self.modules.contains_key(module) => {

@@ -1,9 +1,10 @@
 -- What the calls over a lent table answer, from what their parts do. Assumes nothing.
-use Rattle.std.proofs.Common.{◌≡◌, ℕ, suc, ◌+◌, ◌-◌, ◌*◌, ◌<◌, ◌≤◌, Bool, true, false, cond, ◌&&◌, eqb, ltb, leb, List, [], ◌∷◌, ◌++◌, length, get_or, drop, set, replicate, sym, refl, ap, ◌∙◌, append_assoc, append-nil, arith, length-append, length-drop, length-set, drop_of_length-le, le-ltb, lt-ltb, eq-eqb, ne_eqb, le-leb}
-use mathlib.Core.Option.{Option, none, some}
+use Rattle.std.proofs.Common.{◌≡◌, ℕ, suc, ◌+◌, ◌-◌, ◌*◌, ◌<◌, ◌≤◌, Bool, true, false, cond, ◌&&◌, eqb, ltb, leb, List, [], ◌∷◌, ◌++◌, length, get_or, drop, set, replicate, sym, refl, ap, ◌∙◌, append_assoc, append-nil, arith, length-append, length-set, le-ltb, lt-ltb, eq-eqb, ne_eqb, le-leb, Option, Some, None, Result, Ok, Err}
+use mathlib.Core.Option.{Option as Maybe, none, some}
 use borrow.Author.Tests.{lt-leb}
 use lib.ListN.{length-replicate}
 use lib.Seq.{sets, sets-eq}
+use Rattle.frame.specs.declared.refusal.Refusal.{Refusal}
 use Rattle.gsv.specs.Gsv.{Satellite}
 use Rattle.gsv.specs.Talker.{system_number}
 use Rattle.answer.specs.Sentence.{Answer, is_rmc, is_gsa, is_gsv, is_gga, is_gll, is_vtg, is_other, is_refused, answer}
@@ -19,13 +20,11 @@ use Rattle.gather.proofs.Tables.{number-within}
 use Rattle.fed.specs.Line.{gathers}
 use Rattle.intake.specs.Brief.{Brief, accepted, gsv_line, refusal, brief_of, gsv_in}
 use Rattle.intake.specs.Answer.{brief, outcome_of, Takes}
-use Rattle.intake.specs.declared.Taken.{Taken}
-use Rattle.intake.specs.declared.Taken.TheVariants.{Accepted, Gsv, Refused}
+use Rattle.intake.specs.declared.GsvLine.{GsvLine}
 use Rattle.words.specs.Part.{zeros, option_words}
 use Rattle.words.specs.Gsv.{entry_words}
 use Rattle.words.specs.Words.{word_count, words}
 use Rattle.words.proofs.Lengths.{option-two, entry-eight}
-use Rattle.words.proofs.Stores.{one-zero as next-zero}
 use Rattle.capi.specs.Answer.{done, undone}
 use Rattle.capi.specs.Lend.{Freshened, code, line_code, takes, GatheredLine, row_room, row_head, entries_words, row_read, reads, RowRead}
 use Rattle.capi.specs.Code.{taken_code, ReadAs}
@@ -43,10 +42,10 @@ code_in accepted o = 0
 code_in (gsv_line t h) o = code o (row_from (source_from t))
 code_in (refusal x) o = 0
 
-by-brief : (r : Taken) → taken_code r ≡ code_in (brief r) (outcome_of r)
-by-brief Accepted = refl
-by-brief (Gsv t h o) = refl
-by-brief (Refused x) = refl
+by-brief : (r : Result (Option GsvLine) Refusal) → taken_code r ≡ code_in (brief r) (outcome_of r)
+by-brief (Ok None) = refl
+by-brief (Ok (Some g)) = refl
+by-brief (Err x) = refl
 
 by-answer : (a : Answer) (t : List ℕ) → code_in (brief_of a) (gathers t (gsv_in a)).handed ≡ line_code (gsv_in a) (gathers t (gsv_in a))
 by-answer (is_rmc r) t = refl
@@ -73,7 +72,7 @@ module _ (line out t : List ℕ) where
   pub no-table : word_count ≤ length out → (length t ≡ table_words → ⊥) → GatheredLine line out out t t undone
   no-table h n = nothing-taken (λ j. le-leb word_count (length out) h j && ne_eqb (length t) table_words n j)
 
-  pub line-taken : (out' t' : List ℕ) (x : Taken) (r : ℕ) → word_count ≤ length out → length t ≡ table_words → Takes (answer line) out out' t t' x
+  pub line-taken : (out' t' : List ℕ) (x : Result (Option GsvLine) Refusal) (r : ℕ) → word_count ≤ length out → length t ≡ table_words → Takes (answer line) out out' t t' x
       → r ≡ taken_code x → GatheredLine line out out' t t' r
   line-taken out' t' x r h long k q =
       let e : takes out t ≡ true = λ j. le-leb word_count (length out) h j && eq-eqb (length t) table_words long j in
@@ -144,36 +143,19 @@ pub entry-room : (l : List ℕ) (i id k : ℕ) → i < cell_count → row_room �
 entry-room l i id k h r f = omega (arith, two-long l (5 + i * 8) 1 (5 + i * 8 + 1) id)
 
 -- an entry's eight words: two, and three times two
-pub entry-stored : (l a b c d : List ℕ) (to id : ℕ) (e f g : Option ℕ) → a ≡ set (set l to 1) (to + 1) id → b ≡ sets a (to + 2) (option_words e)
+pub entry-stored : (l a b c d : List ℕ) (to id : ℕ) (e f g : Maybe ℕ) → a ≡ set (set l to 1) (to + 1) id → b ≡ sets a (to + 2) (option_words e)
     → c ≡ sets b (to + 4) (option_words f) → d ≡ sets c (to + 6) (option_words g)
     → d ≡ sets l to (entry_words (some (record { id = id; elevation = e; azimuth = f; signal = g })))
 entry-stored l a b c d to id e f g ea eb ec ed =
     four l a b c d (1 ∷ id ∷ []) (option_words e) (option_words f) (option_words g) to (to + 2) (to + 4) (to + 6)
     (ea ∙ two-stored l to 1 id) refl eb (omega (arith, option-two e)) ec (omega (arith, option-two f)) ed
 
--- the table while it is made fresh: the first i words are 0, and the others stand
-abbrev pub cleared : List ℕ → ℕ → List ℕ
-cleared t i = replicate i 0 ++ drop i t
-
-pub cleared-long : (t : List ℕ) (i : ℕ) → i ≤ length t → length (cleared t i) ≡ length t
-cleared-long t i h = omega (arith, length-append (replicate i 0) (drop i t), length-replicate {A = ℕ} i 0, length-drop i t)
-
-pub cleared-next : (t : List ℕ) (i : ℕ) → i < length t → set (cleared t i) i 0 ≡ cleared t (i + 1)
-cleared-next [] i h = absurd (omega arith)
-cleared-next (x ∷ t) ℕ.zero h = refl
-cleared-next (x ∷ t) (suc i) h =
-    let z : suc (i + 1) ≡ suc i + 1 = omega arith in
-    ap (λ (l : List ℕ). 0 ∷ l) (cleared-next t i (omega arith)) ∙ ap (cleared (x ∷ t)) z
-
-pub all-cleared : (t : List ℕ) (i : ℕ) → length t ≡ table_words → i ≡ table_words → Freshened t (cleared t i) done
-all-cleared t i long e =
+-- a table that is made fresh, and one that is none
+pub all-cleared : (t t' : List ℕ) → length t ≡ table_words → t' ≡ replicate (length t) 0 → Freshened t t' done
+all-cleared t t' long e =
     let b : eqb (length t) table_words ≡ true = eq-eqb (length t) table_words long in
     record {
-      table =
-          ap (cleared t) e
-          ∙ ap (λ (l : List ℕ). fresh_table ++ l) (drop_of_length-le t {i = table_words} (omega arith))
-          ∙ append-nil fresh_table
-          ∙ sym (ap (λ (b : Bool). cond b fresh_table t) b);
+      table = e ∙ ap (λ (n : ℕ). replicate n 0) long ∙ sym (ap (λ (b : Bool). cond b fresh_table t) b);
       says = sym (ap (λ (b : Bool). cond b done undone) b);
     }
 
@@ -207,12 +189,6 @@ pub one-entry : (l m o ws : List ℕ) (i : ℕ) → m ≡ sets l 5 (entries_word
 one-entry l m o ws i e f =
     behind l m o (entries_words (sats_from 0 i ws)) (entry_words (some (sat_at ws i))) 5 (5 + i * 8) e (omega (arith, wide i ws)) f
     ∙ ap (sets l 5) (entries-next i ws)
-
-pub one-zero : (l m : List ℕ) (from j : ℕ) → from ≤ j → m ≡ sets l from (zeros (j - from)) → set m j 0 ≡ sets l from (zeros (j + 1 - from))
-one-zero l m from j h e =
-    let z : j ≡ from + (j - from) = omega arith in
-    let y : j - from + 1 ≡ j + 1 - from = omega arith in
-    ap (λ (k : ℕ). set m k 0) z ∙ next-zero l m from (j - from) e ∙ ap (λ (n : ℕ). sets l from (zeros n)) y
 
 module _ (κ : ℕ) (ws out : List ℕ) (room : row_room ≤ length out) where
   pub too-many : cell_count < get_or ws 3 0 → ReadAs ws κ out out undone

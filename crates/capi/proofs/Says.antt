@@ -1,5 +1,5 @@
 -- What follows from the core's answer to a line: its refusal's number, and its words. Assumes nothing.
-use Rattle.std.proofs.Common.{◌≡◌, ℕ, ◌<◌, ◌≤◌, Bool, false, cond, leb, ◌↔◌, List, ◌++◌, length, drop, sym, refl, ap, ◌∙◌, arith, le-leb}
+use Rattle.std.proofs.Common.{◌≡◌, ℕ, ◌<◌, ◌≤◌, Bool, false, cond, leb, ◌↔◌, List, ◌++◌, length, drop, sym, refl, ap, ◌∙◌, arith, le-leb, Option, Some, None, Result, Ok}
 use mathlib.Core.Option.{none}
 use borrow.Author.Tests.{lt-leb}
 use Rattle.answer.specs.Sentence.{Answer, is_rmc, is_gsa, is_gsv, is_gga, is_gll, is_vtg, is_other, is_refused, verdict_of, answer}
@@ -8,7 +8,8 @@ use Rattle.words.specs.Words.{word_count, refusal_number, words, into}
 use Rattle.intake.specs.Brief as briefs
 use Rattle.intake.specs.Brief.{Brief, gsv_line, refusal, brief_of}
 use Rattle.intake.specs.Answer.{brief}
-use Rattle.intake.specs.declared.Taken.{Taken}
+use Rattle.intake.specs.declared.GsvLine.{GsvLine}
+use Rattle.frame.specs.declared.refusal.Refusal.{Refusal}
 use Rattle.capi.specs.Answer.{done, undone, Answered}
 
 -- the number of a brief answer
@@ -57,13 +58,21 @@ at-most (is_vtg v) h = omega arith
 at-most (is_other k) h = omega arith
 at-most (is_refused r) h = h.1
 
+-- an accepted line has none
+pub accepted-none : (o : Option GsvLine) → 0 ≡ number_in (brief (Ok o))
+accepted-none None = refl
+accepted-none (Some g) = refl
+
 -- the number of a line that was taken: it says whether there is a refusal, and is one of a line's
-pub said : (l : List ℕ) {n : ℕ} {r r₀ : Taken} → brief r ≡ brief_of (answer l) → r ≡ r₀ → n ≡ number_in (brief r₀)
-    → (n ≡ refusal_number (answer l)) × ((n ≡ 0) ↔ (verdict_of (answer l) ≡ none)) × (n ≤ 11) × (l ≡ l)
-said l {n} d q f =
-    let e : n ≡ refusal_number (answer l) = f ∙ ap (λ (x : Taken). number_in (brief x)) (sym q) ∙ ap number_in d ∙ number-is (answer l) in
-    let h : refusal_number (answer l) ≤ 9 = at-most (answer l) (numbered-line l) in
-    (e, (λ z. accepted (answer l) (numbered-line l) (sym e ∙ z), λ z. e ∙ none-zero (answer l) z), omega arith, refl)
+module _ (l : List ℕ) {n : ℕ} (r : Result (Option GsvLine) Refusal) (says : brief r ≡ brief_of (answer l)) (number : n ≡ number_in (brief r)) where
+  pub number-said : n ≡ refusal_number (answer l)
+  number-said = number ∙ ap number_in says ∙ number-is (answer l)
+
+  pub accepted-said : (n ≡ 0) ↔ (verdict_of (answer l) ≡ none)
+  accepted-said = (λ z. accepted (answer l) (numbered-line l) (sym number-said ∙ z), λ z. number-said ∙ none-zero (answer l) z)
+
+  pub most-said : n ≤ 11
+  most-said = omega (arith, number-said, at-most (answer l) (numbered-line l))
 
 -- the whole answer in a buffer
 module _ (line out : List ℕ) where

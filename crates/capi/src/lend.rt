@@ -47,11 +47,7 @@ pub fn nmea_fresh(table: &mut [u32]) -> u32
     if table.len() != gather::table::WORDS {
         return UNDONE;
     }
-    let mut i = 0;
-    while i < gather::table::WORDS {
-        table[i] = 0;
-        i += 1;
-    }
+    table.fill(0);
     DONE
 }
 
@@ -73,19 +69,18 @@ fn taken_code(taken: Taken) -> u32
     ensures { result ≡ taken_code taken }
 {
     match taken {
-        Taken::Accepted => NO_GSV,
-        Taken::Gsv(talker, _, outcome) => {
-            let row = gather::table::row_of(gather::table::source_of(talker));
-            row_code(outcome, row)
+        Ok(Some(g)) => {
+            let row = gather::table::row_of(gather::table::source_of(g.talker));
+            row_code(g.outcome, row)
         }
-        Taken::Refused(_) => NO_GSV,
+        _ => NO_GSV,
     }
 }
 
 // Takes a line: its whole answer in the first 40 words, and what it does to the table, as a number. 255: too few words or a table of
 // another length, and nothing written.
 pub fn nmea_gather(line: &[u8], out: &mut [u64], table: &mut [u32]) -> u32
-    ensures { GatheredLine line.now out.old out.new table.old table.new result × (line.now ≡ line.now) }
+    ensures { GatheredLine line.now out.old out.new table.old table.new result }
 {
     if out.len() < WORDS {
         return UNDONE;
@@ -98,7 +93,8 @@ pub fn nmea_gather(line: &[u8], out: &mut [u64], table: &mut [u32]) -> u32
 
 // A word of a row that may be absent, as two.
 fn put_option(out: &mut [u64], at: usize, x: u32)
-    requires { (at + 2 ≤ length out.old) × (at ≤ 400) }
+    requires room { at + 2 ≤ length out.old }
+    requires near { at ≤ 400 }
     ensures { out.new ≡ sets out.old at (option_words (number_of x)) }
 {
     if x == lent::ABSENT {
@@ -112,7 +108,9 @@ fn put_option(out: &mut [u64], at: usize, x: u32)
 
 // The entry in cell i.
 fn put_entry(out: &mut [u64], row: &[u32], i: usize)
-    requires { (length row.now ≡ row_words) × (i < cell_count) × (row_room ≤ length out.old) }
+    requires row { length row.now ≡ row_words }
+    requires cell { i < cell_count }
+    requires room { row_room ≤ length out.old }
     ensures { out.new ≡ sets out.old (5 + i * 8) (entry_words (some (sat_at row.now i))) }
 {
     let at = lent::HEAD + i * lent::CELL;
@@ -130,7 +128,9 @@ fn put_entry(out: &mut [u64], row: &[u32], i: usize)
 
 // A row's system, n, the number waited for, in view and count.
 fn put_head(out: &mut [u64], row: &[u32], number: usize)
-    requires { (length row.now ≡ row_words) × (number < row_count) × (row_room ≤ length out.old) }
+    requires row { length row.now ≡ row_words }
+    requires number { number < row_count }
+    requires room { row_room ≤ length out.old }
     ensures { out.new ≡ sets out.old 0 (row_head number row.now) }
 {
     out[SYSTEM] = number as u64 + 1;
@@ -142,31 +142,30 @@ fn put_head(out: &mut [u64], row: &[u32], number: usize)
 
 // The entries in the first count of its cells.
 fn put_entries(out: &mut [u64], row: &[u32], count: usize)
-    requires { (length row.now ≡ row_words) × (count ≤ cell_count) × (row_room ≤ length out.old) }
+    requires row { length row.now ≡ row_words }
+    requires count { count ≤ cell_count }
+    requires room { row_room ≤ length out.old }
     ensures { out.new ≡ sets out.old 5 (entries_words (sats_from 0 count row.now)) }
 {
-    let mut i = 0;
-    while i < count {
+    for i in 0..count {
         put_entry(&mut *out, row, i);
-        i += 1;
     }
 }
 
 // Zeros from a word on, to the last of a row.
 fn put_zeros(out: &mut [u64], from: usize)
-    requires { (from ≤ row_room) × (row_room ≤ length out.old) }
+    requires from { from ≤ row_room }
+    requires room { row_room ≤ length out.old }
     ensures { out.new ≡ sets out.old from (zeros (row_room - from)) }
 {
-    let mut j = from;
-    while j < ROW_WORDS {
-        out[j] = 0;
-        j += 1;
-    }
+    out[from..ROW_WORDS].fill(0);
 }
 
 // The words of a row, where there is room for them.
 fn read_row(row: &[u32], number: usize, out: &mut [u64]) -> u32
-    requires { (length row.now ≡ row_words) × (number < row_count) × (row_room ≤ length out.old) }
+    requires row { length row.now ≡ row_words }
+    requires number { number < row_count }
+    requires room { row_room ≤ length out.old }
     ensures { ReadAs row.now number out.old out.new result }
 {
     let count = row[lent::COUNT] as usize;
@@ -182,7 +181,7 @@ fn read_row(row: &[u32], number: usize, out: &mut [u64]) -> u32
 // Reads a row of a table: its system, n, the number waited for, in view, count and 36 entries in the first 293 words. Too few words, a
 // table of another length, a row that it has not, or one with more than 36 entries: 255, and nothing written.
 pub fn nmea_row(table: &[u32], row: usize, out: &mut [u64]) -> u32
-    ensures { RowRead table.now row out.old out.new result × (table.now ≡ table.now) }
+    ensures { RowRead table.now row out.old out.new result }
 {
     if out.len() < ROW_WORDS {
         return UNDONE;

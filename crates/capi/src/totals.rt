@@ -3,7 +3,7 @@ ghost use Rattle.std.specs.Prelude.{◌≡◌, ◌≤◌, ◌++◌, length, drop
 ghost use Rattle.capi.specs.Totals.{totals_of, WalkedAll};
 
 use crate::{DONE, UNDONE};
-use logs::walk::{Counts, Walked, totals};
+use logs::walk::{Counts, totals};
 
 // How many totals there are, and where each stands.
 const TOTALS: usize = 5;
@@ -32,16 +32,16 @@ fn put_totals(out: &mut [u64], c: Counts)
 // Walks the whole log from its start with a fresh gatherer. Lines, blank, accepted, refused and groups in the first five words, and 0; or
 // the number of the log's refusal, or 255 where the buffer is shorter, and nothing written.
 pub fn nmea_walk(log: &[u8], out: &mut [u64]) -> u32
-    ensures { WalkedAll log.now out.old out.new result × (log.now ≡ log.now) }
+    ensures { WalkedAll log.now out.old out.new result }
 {
     if out.len() < TOTALS {
         return UNDONE;
     }
     match totals(log) {
-        Walked::Refused(why) => why.number(),
-        Walked::Went(c) => {
+        Ok(c) => {
             put_totals(out, c);
             DONE
         }
+        Err(why) => why.number(),
     }
 }

@@ -12,7 +12,9 @@ ghost use Rattle.capi.specs.Totals.{WalkedAll};
 // The number of a line's refusal, at most 11; 0 exactly if it is accepted.
 #[unsafe(no_mangle)]
 pub extern "C" fn nmea_refusal(line: &[u8]) -> u32
-    ensures { (result ≡ refusal_number (answer line.now)) × ((result ≡ 0) ↔ (verdict_of (answer line.now) ≡ none)) × (result ≤ 11) × (line.now ≡ line.now) }
+    ensures number { result ≡ refusal_number (answer line.now) }
+    ensures accepted { (result ≡ 0) ↔ (verdict_of (answer line.now) ≡ none) }
+    ensures most { result ≤ 11 }
 {
     capi::nmea_refusal(line)
 }
@@ -20,7 +22,7 @@ pub extern "C" fn nmea_refusal(line: &[u8]) -> u32
 // The whole answer to a line in the first 40 words of a buffer, and 0; or 255 where the buffer is shorter.
 #[unsafe(no_mangle)]
 pub extern "C" fn nmea_answer(line: &[u8], out: &mut [u64]) -> u32
-    ensures { Answered line.now out.old out.new result × (line.now ≡ line.now) }
+    ensures { Answered line.now out.old out.new result }
 {
     capi::nmea_answer(line, out)
 }
@@ -29,7 +31,7 @@ pub extern "C" fn nmea_answer(line: &[u8], out: &mut [u64]) -> u32
 // the number of the log's refusal, or 255 where the buffer is shorter, and nothing written.
 #[unsafe(no_mangle)]
 pub extern "C" fn nmea_walk(log: &[u8], out: &mut [u64]) -> u32
-    ensures { WalkedAll log.now out.old out.new result × (log.now ≡ log.now) }
+    ensures { WalkedAll log.now out.old out.new result }
 {
     capi::totals::nmea_walk(log, out)
 }
@@ -46,7 +48,7 @@ pub extern "C" fn nmea_fresh(table: &mut [u32]) -> u32
 // another length, and nothing written.
 #[unsafe(no_mangle)]
 pub extern "C" fn nmea_gather(line: &[u8], out: &mut [u64], table: &mut [u32]) -> u32
-    ensures { GatheredLine line.now out.old out.new table.old table.new result × (line.now ≡ line.now) }
+    ensures { GatheredLine line.now out.old out.new table.old table.new result }
 {
     capi::lend::nmea_gather(line, out, table)
 }
@@ -55,7 +57,7 @@ pub extern "C" fn nmea_gather(line: &[u8], out: &mut [u64], table: &mut [u32]) -
 // table of another length, a row that it has not, or one with more than 36 entries: 255, and nothing written.
 #[unsafe(no_mangle)]
 pub extern "C" fn nmea_row(table: &[u32], row: usize, out: &mut [u64]) -> u32
-    ensures { RowRead table.now row out.old out.new result × (table.now ≡ table.now) }
+    ensures { RowRead table.now row out.old out.new result }
 {
     capi::lend::nmea_row(table, row, out)
 }

@@ -3,23 +3,22 @@
 use Prim.Native.Nat.{ℕ, ◌+◌, ◌*◌, ◌^◌, ◌≤◌, ◌<◌}
 use native.Mathlib.Omega.{arith}
 use native.Mathlib.Nat.{mul-le-mul_right}
-use mathlib.Core.Path.{◌≡◌, refl, ap, subst}
+use mathlib.Core.Path.{◌≡◌, refl, subst}
 use mathlib.Core.Bool.{Bool, true, false, cond, ◌&&◌}
 use mathlib.Core.List.{List, [], ◌∷◌}
 use mathlib.Core.Option.{Option, none, some, map}
 use lib.ListN.{length, drop}
 use lib.Dec.{leb, ltb, eqb}
 use borrow.Author.Tests.{leb-true, ltb-true}
+use Rattle.std.specs.Prelude.{Option as Maybe, Some, Ok}
 use Rattle.text.specs.Bytes.{byte}
 use Rattle.text.specs.Reader.{got}
 use Rattle.text.specs.Number.{leading_digits, after_digits, value_from, only_digits}
 use Rattle.decimal.specs.Decimal.{Limits, Decimal, without_sign, negative, text, from_comma, fraction, in_limits, within, digits, plain, or_number, place_of, decimal}
-use Rattle.text.specs.Placed.{Reads}
+use Rattle.text.specs.Answer.{Finds, seen, held_as}
 use Rattle.text.proofs.Places.{took}
-use Rattle.decimal.specs.Code.{unsigned_place}
-use Rattle.decimal.specs.Answer.{unsigned_at}
-use Rattle.decimal.specs.declared.UnsignedAt.{UnsignedAt}
-use Rattle.decimal.specs.declared.UnsignedAt.TheVariants.{Is}
+use Rattle.decimal.specs.Answer.{a_decimal}
+use Rattle.decimal.specs.declared.Decimal.{Decimal as CodeDecimal}
 use Rattle.decimal.proofs.Power.{under, sum-power}
 use Rattle.decimal.proofs.Decimals.{value-lt}
 
@@ -122,8 +121,6 @@ pub bounded : (lim : Limits) (l : List ℕ) {d : Decimal} {m : List ℕ} → dec
 unfolding decimal
 bounded lim l e = held-by lim (plain lim) (λ t d. plain-bounded lim t) l e
 
--- the same of the code's digits
-pub held : {s : List ℕ} {at : ℕ} (lim : Limits) {r : UnsignedAt} {n k p : ℕ} → Reads s at (unsigned_place lim) (unsigned_at r) → r ≡ Is n k p
-    → Bounded lim (without_sign n k)
-unfolding unsigned_place
-held {s} {at} lim t e = held-by lim (digits lim) (λ t d. digits-bounded lim t) (drop at s) (took t (ap unsigned_at e)).reads
+-- the same of the code's answers
+pub kept : {s : List ℕ} {at p : ℕ} (lim : Limits) {o : Maybe CodeDecimal} {d : CodeDecimal} → Finds s at (decimal lim) (seen (held_as a_decimal)) (Ok (o, p)) → o ≡ Some d → Bounded lim (a_decimal d)
+kept {s} {at} {p} lim {d = d} t e = let u : Finds s at (decimal lim) (seen (held_as a_decimal)) (Ok (Some d, p)) = rw e at t in bounded lim (drop at s) (took u.reads refl).reads

@@ -7,10 +7,15 @@ use mathlib.Core.Bool.{Bool, true, false, cond, ◌&&◌}
 use mathlib.Core.Logic.{◌⊎◌, inl, inr}
 use mathlib.Core.List.{List, [], ◌∷◌}
 use mathlib.Core.Option.{Option, none, some}
-use lib.ListN.{length}
+use lib.ListN.{length, drop}
 use lib.Dec.{leb, ltb, eqb}
 use borrow.Author.Tests.{le-leb, lt-ltb, leb-true, leb-false, ne_eqb, eqb-true, ltb-true, ltb-false}
 use Rattle.text.specs.Reader.{Parse, miss, refuse, got, char, Number}
+use Rattle.text.specs.Placed.{Reads}
+use Rattle.text.specs.Answer.{faulted}
+use Rattle.text.specs.declared.Fault.{Fault}
+use Rattle.text.specs.declared.Fault.TheVariants.{NoMatch, UnknownType, Number as BadNumber, BadTime}
+use Rattle.text.proofs.Places.{missed, barred}
 use Rattle.text.specs.Number.{is_digit, leading_digits, after_digits, value_from, only_digits}
 use Rattle.text.proofs.Fixed.{digit-top}
 use Rattle.decimal.specs.Decimal.{Limits, Decimal, without_sign, text, from_comma, fraction, in_limits, within, or_number}
@@ -154,6 +159,33 @@ ran-over most value l e = by (leb (0 + length (leading_digits l)) most) refl e
         → most < length (leading_digits l)
     by true f e = let y : ◌≡◌ {A = ℕ} 0 1 = cc in absurd (omega arith)
     by false f e = let k : most < 0 + length (leading_digits l) = leb-false _ _ f in omega arith
+
+-- a run that finds nothing is too long, and ends in no other fault
+run-ends : (most value : ℕ) (l : List ℕ) (C : Type 0) → (run most value 0 l ≡ refuse Number → C) → ((r : Run) (m : List ℕ) → run most value 0 l ≡ got r m → C) → C
+unfolding run
+run-ends most value l C over found = by (leb (0 + length (leading_digits l)) most) refl
+  where
+    by : (t : Bool) → leb (0 + length (leading_digits l)) most ≡ t → C
+    by true e = found (record { value = value_from value (leading_digits l); count = 0 + length (leading_digits l) }) (after_digits l) (rw e)
+    by false e = over (rw e)
+
+pub run-fault : {s : List ℕ} {at : ℕ} (most value : ℕ) (e : Fault) → Reads s at (run most value 0) (faulted e) → (run most value 0 (drop at s) ≡ refuse Number) × (e ≡ BadNumber)
+run-fault {s} {at} most value e t =
+    run-ends most value (drop at s) ((run most value 0 (drop at s) ≡ refuse Number) × (e ≡ BadNumber))
+    (λ h. (h, by e t h))
+    (λ r m h. absurd (not-got e t h))
+  where
+    not-got : (e : Fault) {r : Run} {m : List ℕ} → Reads s at (run most value 0) (faulted e) → run most value 0 (drop at s) ≡ got r m → ⊥
+    not-got NoMatch t h = let g = missed t refl in let y : ◌≡◌ {A = ℕ} 0 1 = cc in omega arith
+    not-got UnknownType t h = let g = barred t refl in let y : ◌≡◌ {A = ℕ} 0 1 = cc in omega arith
+    not-got BadNumber t h = let g = barred t refl in let y : ◌≡◌ {A = ℕ} 0 1 = cc in omega arith
+    not-got BadTime t h = let g = barred t refl in let y : ◌≡◌ {A = ℕ} 0 1 = cc in omega arith
+
+    by : (e : Fault) → Reads s at (run most value 0) (faulted e) → run most value 0 (drop at s) ≡ refuse Number → e ≡ BadNumber
+    by NoMatch t h = let g = missed t refl in let y : ◌≡◌ {A = ℕ} 0 1 = cc in absurd (omega arith)
+    by UnknownType t h = let g = barred t refl in let y : ◌≡◌ {A = ℕ} 0 1 = cc in absurd (omega arith)
+    by BadNumber t h = refl
+    by BadTime t h = let g = barred t refl in let y : ◌≡◌ {A = ℕ} 0 1 = cc in absurd (omega arith)
 
 -- digits write less than a one and as many zeros
 pub value-lt : (n : ℕ) (l : List ℕ) → value_from n (leading_digits l) < (n + 1) * 10 ^ length (leading_digits l)

@@ -2,23 +2,21 @@
 -- Assumes nothing.
 use Prim.Native.Nat.{ℕ, zero, suc, ◌*◌, ◌-◌, ◌^◌, ◌≤◌, ◌<◌}
 use native.Mathlib.Omega.{arith}
-use mathlib.Core.Path.{◌≡◌, refl, ap, subst}
+use mathlib.Core.Path.{◌≡◌, refl, subst}
 use mathlib.Core.Bool.{Bool, true, false}
 use mathlib.Core.List.{List}
 use mathlib.Core.Option.{Option, none, some, map}
+use lib.ListN.{drop}
 use lib.IntN.{nat_abs}
-use Rattle.text.specs.Reader.{Parse, miss, refuse, got, after, ◌>>=◌, pure}
-use Rattle.text.specs.Placed.{Reads}
+use Rattle.std.specs.Prelude.{Option as Maybe, Some, Ok}
+use Rattle.text.specs.Answer.{Finds, seen, held_as}
 use Rattle.text.proofs.Places.{took}
+use Rattle.decimal.specs.Answer.{a_short, a_long}
+use Rattle.decimal.specs.declared.ShortDecimal.{ShortDecimal}
+use Rattle.decimal.specs.declared.LongDecimal.{LongDecimal}
+use Rattle.text.specs.Reader.{Parse, miss, refuse, got, after, ◌>>=◌, pure}
 use Rattle.decimal.specs.Decimal.{Limits, Decimal, text, decimal, short, long}
 use Rattle.decimal.specs.Places.{Short, Long, short_of, long_of, signed, short_decimal, long_decimal}
-use Rattle.decimal.specs.Answer.{short_at, a_short, long_at, a_long}
-use Rattle.decimal.specs.declared.ShortDecimal.{ShortDecimal}
-use Rattle.decimal.specs.declared.ShortAt.{ShortAt}
-use Rattle.decimal.specs.declared.ShortAt.TheVariants.{Is as AShort}
-use Rattle.decimal.specs.declared.LongDecimal.{LongDecimal}
-use Rattle.decimal.specs.declared.LongAt.{LongAt}
-use Rattle.decimal.specs.declared.LongAt.TheVariants.{Is as ALong}
 use Rattle.decimal.proofs.Power.{minutes-lt}
 use Rattle.decimal.specs.Plain.{Plain}
 use Rattle.decimal.proofs.Bounds.{Bounded, bounded}
@@ -73,8 +71,12 @@ unfolding long_decimal
 long-facts l e = let h = from long long_of l e in subst (λ (x : Long). LongFacts x) h.same (long-known h.of h.known)
 
 -- the same of the code's answers
-pub short-held : {s : List ℕ} {at : ℕ} {r : ShortAt} {d : ShortDecimal} {p : ℕ} → Reads s at short_decimal (short_at r) → r ≡ AShort d p → ShortFacts (a_short d)
-short-held t e = short-facts _ (took t (ap short_at e)).reads
+pub short-held : {s : List ℕ} {at p : ℕ} {o : Maybe ShortDecimal} {d : ShortDecimal} → Finds s at short_decimal (seen (held_as a_short)) (Ok (o, p)) → o ≡ Some d → ShortFacts (a_short d)
+short-held {s} {at} {p} {d = d} t e =
+    let u : Finds s at short_decimal (seen (held_as a_short)) (Ok (Some d, p)) = rw e at t in
+    short-facts (drop at s) (took u.reads refl).reads
 
-pub long-held : {s : List ℕ} {at : ℕ} {r : LongAt} {d : LongDecimal} {p : ℕ} → Reads s at long_decimal (long_at r) → r ≡ ALong d p → LongFacts (a_long d)
-long-held t e = long-facts _ (took t (ap long_at e)).reads
+pub long-held : {s : List ℕ} {at p : ℕ} {o : Maybe LongDecimal} {d : LongDecimal} → Finds s at long_decimal (seen (held_as a_long)) (Ok (o, p)) → o ≡ Some d → LongFacts (a_long d)
+long-held {s} {at} {p} {d = d} t e =
+    let u : Finds s at long_decimal (seen (held_as a_long)) (Ok (Some d, p)) = rw e at t in
+    long-facts (drop at s) (took u.reads refl).reads

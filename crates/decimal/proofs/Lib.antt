@@ -5,12 +5,10 @@ pub mod Decimals
 pub mod Cases
 pub mod Order
 pub mod Bounds
-pub mod Steps
 pub mod Facts
 pub mod Exactly
 pub mod NotNan
 pub mod Nearest
 pub mod Number
 pub mod Signs
-pub mod Negation
 pub mod Quotient

@@ -1,8 +1,8 @@
 -- A float equals itself exactly where it is no NaN, so that test finds what has no bits of its own. Assumes nothing.
 use Prim.Native.Nat.{ℕ, ◌*◌}
-use mathlib.Core.Path.{◌≡◌, refl, ap, sym, ◌∙◌, subst}
+use mathlib.Core.Path.{◌≡◌, refl, ap, sym, ◌∙◌}
 use mathlib.Core.Bool.{Bool, true, false, cond, not, ◌&&◌, ◌||◌, beq}
-use lib.Dec.{T, eqb}
+use lib.Dec.{eqb}
 use lib.Ieee.{Float, nan, inf, fin, Format, up, down, eq, is_nan, to_bits}
 use borrow.Author.Tests.{eq-eqb}
 use Rattle.decimal.specs.Bits.{bits_of}
@@ -20,16 +20,6 @@ itself (fin s m e) =
     ap (λ (t : Bool). t && (beq s s || eqb n 0)) (eq-eqb n n refl) ∙ ap (λ (t : Bool). t || eqb n 0) (same-sign s)
 
 module _ (x : Float) where
-  pub not-nan : eq x x ≡ true → T (not (is_nan x))
-  not-nan e = subst (λ (t : Bool). T t) (sym e ∙ itself x) tt
-
-  pub own-bits : (f : Format) (quiet : ℕ) → eq x x ≡ true → to_bits f x ≡ bits_of f quiet x
-  own-bits f quiet e = at (is_nan x) (sym (itself x) ∙ e)
-    where
-      at : (t : Bool) → not t ≡ true → to_bits f x ≡ cond t quiet (to_bits f x)
-      at true h = absurd (mathlib.Core.Bool.false≢true h)
-      at false h = refl
-
   pub quiet-bits : (f : Format) (quiet : ℕ) → eq x x ≡ false → quiet ≡ bits_of f quiet x
   quiet-bits f quiet e = at (is_nan x) (sym (itself x) ∙ e)
     where

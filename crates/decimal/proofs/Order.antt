@@ -9,11 +9,18 @@ use mathlib.Core.Option.{Option, none, some, map}
 use lib.ListN.{length, drop}
 use lib.Dec.{eqb}
 use borrow.Author.Tests.{eqb-true, ne_eqb}
+use Rattle.std.specs.Prelude.{Option as Maybe, Some, None, Result, Ok, Err}
 use Rattle.text.specs.Bytes.{byte}
-use Rattle.text.specs.Reader.{Parse, miss, refuse, got, Reader, Number, after, ◌>>=◌, char}
-use Rattle.text.specs.Placed.{Placed, refused, upto, Reads}
-use Rattle.text.proofs.Places.{a-read, bad-read, alike, go, fail}
-use Rattle.decimal.specs.Decimal.{Limits, Decimal, without_sign, negative, text, from_comma, digits, plain, or_number, decimal}
+use Rattle.text.specs.Reader.{Parse, miss, refuse, got, Reader, after, ◌>>=◌, char}
+use Rattle.text.specs.Answer.{Finds, itself, next, seen, held_as}
+use Rattle.text.specs.declared.Fault.{Fault}
+use Rattle.text.specs.declared.Fault.TheVariants.{Number as BadNumber}
+use Rattle.text.proofs.Places.{took, a-read, bad-read, alike}
+use Rattle.text.proofs.Faults.{never-char}
+use Rattle.text.proofs.Finding.{not-found}
+use Rattle.decimal.specs.Decimal.{Limits, Decimal, negative, text, from_comma, digits, plain, or_number, decimal}
+use Rattle.decimal.specs.Answer.{unsigned, a_decimal}
+use Rattle.decimal.specs.declared.Run.{Run}
 use Rattle.decimal.specs.Code.{minus_sign, unsigned_place, with_sign}
 
 -- a minus sign is the byte
@@ -93,26 +100,29 @@ module _ (lim : Limits) where
       by true e = ap (λ (x : ℕ). decimal lim (x ∷ l)) (eqb-true b (byte "-") e) ∙ minus-first l
       by false e = no-minus b l e ∙ unsigned-is (unsigned_place lim (b ∷ l))
 
--- what the code finds: the sign, if there is one, up to i, and then the digits
-module _ {s : List ℕ} {at : ℕ} (lim : Limits) {minus : Bool} {i : ℕ} (t : Reads s at minus_sign (upto minus i)) {r : Placed (Option Decimal)} (u : Reads s i (unsigned_place lim) r) where
-  as-read : {b : Placed (Option Decimal)} → Reads s i (unsigned_place lim >>= with_sign minus) b → Reads s at (decimal lim) b
-  as-read w = alike (go (λ m. unsigned_place lim >>= with_sign m) t refl w) (in-order lim (drop at s))
+-- what the code finds: the sign, if there is one, and then the digits. For `search`
+module _ {s : List ℕ} {at : ℕ} where
+  pub sign-found : {p : ℕ} → Finds s at (char (byte "-")) next (Ok p) → Finds s at minus_sign itself (Ok (true, p))
+  sign-found t = let k = took t.reads refl in record { reads = a-read (sign-there _ _ k.reads) k.after k.within }
 
-  pub sign-alone : {p : ℕ} → r ≡ upto none p → minus ≡ true → Reads s at (decimal lim) (refused Number)
+  pub sign-none : {e : Fault} → Finds s at (char (byte "-")) next (Err e) → Finds s at minus_sign itself (Ok (false, at))
+  sign-none t = record { reads = a-read (sign-not _ (not-found (λ f. never-char _) refl t)) (omega arith) (omega arith) }
+
+  pub in-turn : {R : Type 0} {see : R → Option Decimal × ℕ} {r : Result R Fault} (lim : Limits) → Finds s at (in_order lim) see r → Finds s at (decimal lim) see r
+  in-turn lim t = record { reads = alike t.reads (in-order lim (drop at s)) }
+
+  pub sign-alone : {R : Type 0} {see : R → Option Decimal × ℕ} (minus : Bool) (o : Maybe Run) → minus ≡ true → o ≡ None → Finds s at (with_sign minus (held_as unsigned o)) see (Err BadNumber)
   unfolding with_sign
-  sign-alone e f = as-read (go (with_sign minus) u e (bad-read (rw f refl)))
+  sign-alone minus o e f = record { reads = bad-read (rw (e, f)) }
 
-  pub nothing : {p : ℕ} → r ≡ upto none p → minus ≡ false → Reads s at (decimal lim) (upto none p)
+  pub nothing : (minus : Bool) (o : Maybe Run) → minus ≡ false → o ≡ None → Finds s at (with_sign minus (held_as unsigned o)) (seen (held_as a_decimal)) (Ok (None, at))
   unfolding with_sign
-  nothing e f = as-read (go (with_sign minus) u e (a-read (rw f refl) (omega arith) (omega arith)))
+  nothing minus o e f = record { reads = a-read (rw (e, f)) (omega arith) (omega arith) }
 
-  pub some-digits : {n k p : ℕ} → r ≡ upto (some (without_sign n k)) p → Reads s at (decimal lim) (upto (some (record { minus = minus; size = n; decimals = k })) p)
+  pub some-digits : (minus : Bool) (o : Maybe Run) {d : Run} → o ≡ Some d
+      → Finds s at (with_sign minus (held_as unsigned o)) (seen (held_as a_decimal)) (Ok (Some (record { minus = minus; size = d.value; decimals = d.count }), at))
   unfolding with_sign
-  some-digits {n} {k} {p} e = as-read (go (with_sign minus) u e (by minus))
-    where
-      by : (m : Bool) → Reads s p (with_sign m (some (without_sign n k))) (upto (some (record { minus = m; size = n; decimals = k })) p)
-      by true = a-read refl (omega arith) (omega arith)
-      by false = a-read refl (omega arith) (omega arith)
+  some-digits true o e = record { reads = a-read (rw e) (omega arith) (omega arith) }
+  some-digits false o e = record { reads = a-read (rw e) (omega arith) (omega arith) }
 
-  pub no-digits : r ≡ refused Number → Reads s at (decimal lim) (refused Number)
-  no-digits e = as-read (fail (with_sign minus) u e)
+pub ruleset ordering = (in-turn, sign-alone, nothing, some-digits)

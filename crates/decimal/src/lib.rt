@@ -5,41 +5,42 @@
 ghost use Rattle.std.specs.Prelude.{◌≡◌, ◌+◌, ◌*◌, ◌^◌, ◌≤◌, ◌<◌, min, drop};
 ghost use Rattle.std.specs.Float.{binary32, binary64};
 ghost use Rattle.std.specs.Float.Ieee.{round};
-ghost use Rattle.text.specs.Placed.{Reads};
-ghost use Rattle.decimal.specs.Decimal.{limits};
+ghost use Rattle.text.specs.Answer.{Finds, itself, seen, held_as};
+ghost use Rattle.decimal.specs.Decimal.{decimal};
 ghost use Rattle.decimal.specs.Code.{run, at_end, minus_sign, unsigned_place};
 ghost use Rattle.decimal.specs.Places.{signed, short_decimal, long_decimal};
 ghost use Rattle.decimal.specs.Bits.{bits_of};
-ghost use Rattle.decimal.specs.Answer.{ran, unsigned_at, sign_at, short_at, long_at};
+ghost use Rattle.decimal.specs.Answer.{limits_of, a_run, unsigned, a_decimal, a_short, a_long};
 
-use text::Next;
+use text::{Fault, Parsed};
 
-fn wide(x: u32) -> u64
-    ensures { result ≡ x }
-{
-    x as u64
+// The most digits that a decimal may have: in all, before the point and after it.
+#[derive(Clone, Copy)]
+struct Limits {
+    all: u32,
+    before: u32,
+    after: u32,
 }
 
-fn least(a: u32, b: u32) -> u32
-    ensures { (result ≤ a) × (result ≤ b) × (result ≡ min a b) }
-{
-    if a < b { a } else { b }
-}
+const SHORT: Limits = Limits {
+    all: 7,
+    before: 7,
+    after: 7,
+};
 
 // The most decimals of a decimal, and so the highest power of ten.
 const DECIMALS: u32 = 9;
 
+const LONG: Limits = Limits {
+    all: 12,
+    before: 3,
+    after: DECIMALS,
+};
+
 // Ten to that power.
 const BILLION: u64 = 1000000000;
 
-// The most digits of a short decimal; of a long one, in all and before the point.
-const SHORT: u32 = 7;
-
-const LONG: u32 = 12;
-
-const LONG_BEFORE: u32 = 3;
-
-// Ten to the power `k`: one, or ten times the power below.
+// Ten to the power `k`: one, or ten times the power below, as the scope names the form.
 fn tens(k: u32) -> u64
     requires { k ≤ 9 }
     ensures { result ≡ 10 ^ k }
@@ -54,107 +55,116 @@ fn tens(k: u32) -> u64
 pub fn pow10(k: u32) -> u64
     ensures { result ≡ 10 ^ min k 9 }
 {
-    tens(least(k, DECIMALS))
+    tens(k.min(DECIMALS))
 }
 
-// A run of digits: the number it writes, its count of digits, the next place; or more digits than allowed.
+// A run of digits: the number that it writes behind what stood before it, and how many there are.
 #[derive(Clone, Copy)]
-pub enum Ran {
-    Over,
-    Is(u64, u32, usize),
+struct Run {
+    value: u64,
+    count: u32,
 }
 
 // Digits that go on from `value`, at most `most`.
-fn run(s: &[u8], at: usize, value: u64, most: u32) -> Ran
+fn digits(s: &[u8], at: usize, value: u64, most: u32) -> Parsed<Run>
     requires { (value + 1) * 10 ^ most ≤ 10000000000000000000 }
-    ensures { Reads s.now at (run most value 0) (ran result) × (s.now ≡ s.now) }
+    ensures { Finds s.now at (run most value 0) (seen a_run) result }
 {
     let mut v = value;
     let mut n: u32 = 0;
-    let mut i = at;
-    while i < s.len() {
-        let b = s[i];
-        let d = text::unit(b);
+    for i in at..s.len() {
+        let d = text::unit(s[i]);
         if 9 < d {
-            return Ran::Is(v, n, i);
+            return Ok((Run { value: v, count: n }, i));
         }
         if n == most {
-            return Ran::Over;
+            return Err(Fault::Number);
         }
-        v = v * 10 + wide(d);
+        v = v * 10 + u64::from(d);
         n += 1;
-        i += 1;
     }
-    Ran::Is(v, n, i)
+    Ok((Run { value: v, count: n }, at.max(s.len())))
 }
 
 // A comma or the end.
 fn ends(s: &[u8], at: usize) -> bool
-    ensures { (result ≡ at_end (drop at s.now)) × (s.now ≡ s.now) }
+    ensures { result ≡ at_end (drop at s.now) }
 {
-    if s.len() <= at {
-        return true;
+    match s.get(at) {
+        Some(&b) => b == b',',
+        None => true,
     }
-    s[at] == b','
 }
 
-// A decimal place without its sign: absent, the digits as one number with their count of decimals, or the refusal Number.
-#[derive(Clone, Copy)]
-pub enum UnsignedAt {
-    Absent(usize),
-    Is(u64, u32, usize),
-    Number,
-}
-
-// The digits of a decimal place with its limits: the most digits in all, before the point and after it.
-fn unsigned_place(s: &[u8], at: usize, all: u32, before: u32, after: u32) -> UnsignedAt
-    requires { (before ≤ all) × (all ≤ 19) }
-    ensures { Reads s.now at (unsigned_place (limits all before after)) (unsigned_at result) × (s.now ≡ s.now) }
+// A decimal place without its sign: its digits as one number, and how many of them stand after the point.
+#[inline(always)]
+fn unsigned_place(s: &[u8], at: usize, limits: Limits) -> Parsed<Option<Run>>
+    requires before { limits.before ≤ limits.all }
+    requires all { limits.all ≤ 19 }
+    ensures { Finds s.now at (unsigned_place (limits_of limits)) (seen (held_as unsigned)) result }
 {
     if ends(s, at) {
-        return UnsignedAt::Absent(at);
+        return Ok((None, at));
     }
-    let Ran::Is(v, m, i) = run(s, at, 0, before) else {
-        return UnsignedAt::Number;
+    let (whole, at) = digits(s, at, 0, limits.before)?;
+    if whole.count == 0 {
+        return Err(Fault::Number);
+    }
+    if ends(s, at) {
+        return Ok((Some(Run { count: 0, ..whole }), at));
+    }
+    let Ok(at) = text::byte(s, at, b'.') else {
+        return Err(Fault::Number);
     };
-    if m == 0 {
-        return UnsignedAt::Number;
+    let most = limits.after.min(limits.all - whole.count);
+    let (all, at) = digits(s, at, whole.value, most)?;
+    if all.count == 0 {
+        return Err(Fault::Number);
     }
-    if ends(s, i) {
-        return UnsignedAt::Is(v, 0, i);
+    if ends(s, at) {
+        return Ok((Some(all), at));
     }
-    let Next::At(j) = text::byte(s, i, b'.') else {
-        return UnsignedAt::Number;
-    };
-    let most = least(after, all - m);
-    let Ran::Is(w, k, e) = run(s, j, v, most) else {
-        return UnsignedAt::Number;
-    };
-    if k == 0 {
-        return UnsignedAt::Number;
-    }
-    if ends(s, e) {
-        return UnsignedAt::Is(w, k, e);
-    }
-    UnsignedAt::Number
+    Err(Fault::Number)
 }
 
-// Whether a minus sign stands there, and the place behind it.
-#[derive(Clone, Copy)]
-pub struct SignAt {
-    pub minus: bool,
-    pub at: usize,
-}
-
-fn minus_sign(s: &[u8], at: usize) -> SignAt
-    ensures { Reads s.now at minus_sign (sign_at result) × (s.now ≡ s.now) }
+// Whether a minus sign stands there.
+fn minus_sign(s: &[u8], at: usize) -> (bool, usize)
+    ensures { Finds s.now at minus_sign itself (Ok result) }
 {
     match text::byte(s, at, b'-') {
-        Next::No => SignAt {
-            minus: false,
-            at: at,
-        },
-        Next::At(p) => SignAt { minus: true, at: p },
+        Ok(next) => (true, next),
+        Err(_) => (false, at),
+    }
+}
+
+// A decimal: its sign, its digits as one number, and how many of them stand after the point.
+#[derive(Clone, Copy)]
+struct Decimal {
+    minus: bool,
+    size: u64,
+    decimals: u32,
+}
+
+// A decimal place. A sign stands before digits, and not by itself. The compiler makes a reader of it for each length.
+#[inline(always)]
+fn decimal_place(s: &[u8], at: usize, limits: Limits) -> Parsed<Option<Decimal>>
+    requires before { limits.before ≤ limits.all }
+    requires all { limits.all ≤ 19 }
+    ensures { Finds s.now at (decimal (limits_of limits)) (seen (held_as a_decimal)) result }
+{
+    let (minus, at) = minus_sign(s, at);
+    let (digits, at) = unsigned_place(s, at, limits)?;
+    match digits {
+        Some(d) => {
+            let d = Decimal {
+                minus: minus,
+                size: d.value,
+                decimals: d.count,
+            };
+            Ok((Some(d), at))
+        }
+        None if minus => Err(Fault::Number),
+        None => Ok((None, at)),
     }
 }
 
@@ -166,17 +176,10 @@ pub struct ShortDecimal {
     pub value: f32,
 }
 
-// A short decimal and the next place, none, or the refusal Number.
-#[derive(Clone, Copy)]
-pub enum ShortAt {
-    Absent(usize),
-    Is(ShortDecimal, usize),
-    Number,
-}
-
 // The f32 nearest to size / 10 ^ k, by one division of exact operands, and negated where `minus` says so.
 fn nearest_f32(minus: bool, size: u32, k: u32) -> f32
-    requires { (size < 10000000) × (k ≤ 6) }
+    requires size { size < 10000000 }
+    requires decimals { k ≤ 6 }
     ensures { result ≡ round binary32 minus size (10 ^ k) }
 {
     let power = pow10(k) as u32;
@@ -193,33 +196,21 @@ fn whole_of(minus: bool, size: u32) -> i32
     if minus { -whole } else { whole }
 }
 
-// A short decimal place: speed, course, variation, DOP. A sign stands before digits, and not by itself.
-pub fn short_decimal(s: &[u8], at: usize) -> ShortAt
-    ensures { Reads s.now at short_decimal (short_at result) × (s.now ≡ s.now) }
+// A short decimal place: speed, course, variation, DOP.
+pub fn short_decimal(s: &[u8], at: usize) -> Parsed<Option<ShortDecimal>>
+    ensures { Finds s.now at short_decimal (seen (held_as a_short)) result }
 {
-    let first = minus_sign(s, at);
-    match unsigned_place(s, first.at, SHORT, SHORT, SHORT) {
-        UnsignedAt::Absent(p) => {
-            if first.minus {
-                return ShortAt::Number;
-            }
-            ShortAt::Absent(p)
-        }
-        UnsignedAt::Is(n, k, p) => {
-            let size = n as u32;
-            let value = nearest_f32(first.minus, size, k);
-            let whole = whole_of(first.minus, size);
-            ShortAt::Is(
-                ShortDecimal {
-                    whole: whole,
-                    decimals: k,
-                    value: value,
-                },
-                p,
-            )
-        }
-        UnsignedAt::Number => ShortAt::Number,
-    }
+    let (d, at) = decimal_place(s, at, SHORT)?;
+    let Some(d) = d else {
+        return Ok((None, at));
+    };
+    let size = d.size as u32;
+    let short = ShortDecimal {
+        whole: whole_of(d.minus, size),
+        decimals: d.decimals,
+        value: nearest_f32(d.minus, size, d.decimals),
+    };
+    Ok((Some(short), at))
 }
 
 // A long decimal: its sign, its digits, their count of decimals, the same in billionths, and the nearest f64.
@@ -232,14 +223,6 @@ pub struct LongDecimal {
     pub value: f64,
 }
 
-// A long decimal and the next place, none, or the refusal Number.
-#[derive(Clone, Copy)]
-pub enum LongAt {
-    Absent(usize),
-    Is(LongDecimal, usize),
-    Number,
-}
-
 // The f64 nearest to so many billionths, by one division of exact operands, and negated where `minus` says so.
 fn nearest_f64(minus: bool, billionths: u64) -> f64
     requires { billionths < 1000000000000 }
@@ -249,34 +232,23 @@ fn nearest_f64(minus: bool, billionths: u64) -> f64
     if minus { -value } else { value }
 }
 
-// A long decimal place: minutes of arc, seconds; a sign as above.
-pub fn long_decimal(s: &[u8], at: usize) -> LongAt
-    ensures { Reads s.now at long_decimal (long_at result) × (s.now ≡ s.now) }
+// A long decimal place: minutes of arc, seconds.
+pub fn long_decimal(s: &[u8], at: usize) -> Parsed<Option<LongDecimal>>
+    ensures { Finds s.now at long_decimal (seen (held_as a_long)) result }
 {
-    let first = minus_sign(s, at);
-    match unsigned_place(s, first.at, LONG, LONG_BEFORE, DECIMALS) {
-        UnsignedAt::Absent(p) => {
-            if first.minus {
-                return LongAt::Number;
-            }
-            LongAt::Absent(p)
-        }
-        UnsignedAt::Is(n, k, p) => {
-            let billionths = n * pow10(DECIMALS - k);
-            let value = nearest_f64(first.minus, billionths);
-            LongAt::Is(
-                LongDecimal {
-                    minus: first.minus,
-                    size: n,
-                    decimals: k,
-                    billionths: billionths,
-                    value: value,
-                },
-                p,
-            )
-        }
-        UnsignedAt::Number => LongAt::Number,
-    }
+    let (d, at) = decimal_place(s, at, LONG)?;
+    let Some(d) = d else {
+        return Ok((None, at));
+    };
+    let billionths = d.size * pow10(DECIMALS - d.decimals);
+    let long = LongDecimal {
+        minus: d.minus,
+        size: d.size,
+        decimals: d.decimals,
+        billionths: billionths,
+        value: nearest_f64(d.minus, billionths),
+    };
+    Ok((Some(long), at))
 }
 
 // The bits of an f32; of a NaN, which no decimal is, those of the quiet one.

@@ -66,11 +66,6 @@ module _ (h m size d : ℕ) (l : List ℕ) where
       ∙ ap (λ (t : Bool). tested (t && ltb (second_of size d) 60)) (lt-ltb m 60 k)
       ∙ ap tested (lt-ltb (second_of size d) 60 n)
 
-  pub bad-time : h < 24 → m < 60 → second_of size d < 60 → 1000000000 ≤ nanosecond_of size d → clock h m size d l ≡ refuse BadTime
-  unfolding timed
-  bad-time j k n b =
-      in-ranges j k n ∙ ap (λ (t : Bool). cond t (got time l) (refuse BadTime)) (le-ltb (nanosecond_of size d) 1000000000 b)
-
   pub in-time : h < 24 → m < 60 → second_of size d < 60 → nanosecond_of size d < 1000000000 → clock h m size d l ≡ got time l
   unfolding timed
   in-time j k n b =

@@ -45,7 +45,7 @@ clear-seconds {f} h m l (some d) n e = by d.minus
 never-two : {f : Fault} → Never f two_bytes
 never-two = never-fixed 2 255
 
-never-comma : {f : Fault} → Never f (char (byte ","))
+pub never-comma : {f : Fault} → Never f (char (byte ","))
 never-comma = never-char (byte ",")
 
 pub hms-number : NumberAt hms time_places
@@ -57,10 +57,12 @@ hms-number =
 pub time-number : NumberAt opt_hms time_places
 time-number = optional hms-number
 
-pub never-date : {f : Fault} → Never f opt_date
+pub never-day : {f : Fault} → Never f date
 unfolding date
-never-date =
-    never-opt (never-bind never-two (λ d. never-bind never-two (λ m. never-bind never-two (λ y. never-or_miss (date_of d m (full_year y))))))
+never-day = never-bind never-two (λ d. never-bind never-two (λ m. never-bind never-two (λ y. never-or_miss (date_of d m (full_year y)))))
+
+pub never-date : {f : Fault} → Never f opt_date
+never-date = never-opt never-day
 
 -- the minutes of latitude stand behind its degrees, those of longitude behind the latitude, a comma and degrees
 abbrev pub position_places : List Place
@@ -103,11 +105,15 @@ no-commas l x = bind-miss (char (byte ",")) _ l (by x)
     by (inr (inl b)) = two-comma l (unbind two_bytes _ l (unbind latitude _ l b.reached).one).one
     by (inr (inr x)) = absurd x
 
+pub never-commas : {f : Fault} → Never f commas
+unfolding commas
+never-commas = never-bind never-comma (λ _. never-bind never-comma (λ _. never-comma))
+
 pub position-number : NumberAt lat_lon position_places
-unfolding lat_lon commas
+unfolding lat_lon
 position-number =
     apart
-    (λ f. never-bind (never-bind never-comma (λ _. never-bind never-comma (λ _. never-comma))) (λ _. never-pure none))
+    (λ f. never-bind never-commas (λ _. never-pure none))
     (first do-number (λ p f. never-pure (some p)))
     (λ l x. bind-miss commas _ l (no-commas l x))
 

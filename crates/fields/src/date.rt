@@ -1,10 +1,10 @@
 // Dates of the Gregorian calendar.
-ghost use Rattle.std.specs.Prelude.{◌≡◌, ◌≤◌};
-ghost use Rattle.text.specs.Placed.{Reads};
+ghost use Rattle.std.specs.Prelude.{◌≡◌, ◌≤◌, Ok};
+ghost use Rattle.text.specs.Answer.{Finds, seen};
 ghost use Rattle.fields.specs.Date.{leap, thirty, days_in, full_year, date_of, date, opt_date};
-ghost use Rattle.fields.specs.Answer.{calendared, date_read, date_at};
+ghost use Rattle.fields.specs.Answer.{day_of, date_held};
 
-use text::Whole;
+use text::{Fault, Parsed};
 
 #[derive(Clone, Copy)]
 pub struct Day {
@@ -25,16 +25,7 @@ fn is_leap(year: u32) -> bool
 fn has_thirty(month: u32) -> bool
     ensures { result ≡ thirty month }
 {
-    if month == 4 {
-        return true;
-    }
-    if month == 6 {
-        return true;
-    }
-    if month == 9 {
-        return true;
-    }
-    month == 11
+    matches!(month, 4 | 6 | 9 | 11)
 }
 
 fn days_in(year: u32, month: u32) -> u32
@@ -57,87 +48,51 @@ fn full_year(year: u32) -> u32
     requires { year ≤ 255 }
     ensures { result ≡ full_year year }
 {
-    if 83 <= year {
-        return 1900 + year;
-    }
-    2000 + year
+    if 83 <= year { 1900 + year } else { 2000 + year }
 }
 
 // A date, unless the calendar lacks it.
-#[derive(Clone, Copy)]
-pub enum Calendar {
-    No,
-    Is(Day),
-}
-
-fn on_calendar(day: u32, month: u32, year: u32) -> Calendar
-    ensures { calendared result ≡ date_of day month year }
+fn on_calendar(day: u32, month: u32, year: u32) -> Option<Day>
+    ensures { date_held result ≡ date_of day month year }
 {
     if month < 1 {
-        return Calendar::No;
+        return None;
     }
     if 12 < month {
-        return Calendar::No;
+        return None;
     }
     if day < 1 {
-        return Calendar::No;
+        return None;
     }
     if days_in(year, month) < day {
-        return Calendar::No;
+        return None;
     }
-    Calendar::Is(Day {
+    Some(Day {
         year: year,
         month: month,
         day: day,
     })
 }
 
-// A date and the next place, or no match.
-#[derive(Clone, Copy)]
-pub enum DateRead {
-    No,
-    Is(Day, usize),
-}
-
 // Day, month and year, two bytes each.
-pub fn parse_date(s: &[u8], at: usize) -> DateRead
-    ensures { Reads s.now at date (date_read result) × (s.now ≡ s.now) }
+pub fn parse_date(s: &[u8], at: usize) -> Parsed<Day>
+    ensures { Finds s.now at date (seen day_of) result }
 {
-    let Whole::Is(day, at) = text::two(s, at) else {
-        return DateRead::No;
+    let (day, at) = text::two(s, at)?;
+    let (month, at) = text::two(s, at)?;
+    let (year, at) = text::two(s, at)?;
+    let Some(date) = on_calendar(day, month, full_year(year)) else {
+        return Err(Fault::NoMatch);
     };
-    let Whole::Is(month, at) = text::two(s, at) else {
-        return DateRead::No;
-    };
-    let Whole::Is(year, at) = text::two(s, at) else {
-        return DateRead::No;
-    };
-    match on_calendar(day, month, full_year(year)) {
-        Calendar::No => DateRead::No,
-        Calendar::Is(d) => DateRead::Is(d, at),
-    }
-}
-
-// A date that may be absent.
-#[derive(Clone, Copy)]
-pub enum DateHeld {
-    Absent,
-    Is(Day),
-}
-
-// A date that may be absent, and the next place; or no match.
-#[derive(Clone, Copy)]
-pub enum DateAt {
-    No,
-    Is(DateHeld, usize),
+    Ok((date, at))
 }
 
 // A date, if one stands there.
-pub fn opt_date(s: &[u8], at: usize) -> DateAt
-    ensures { Reads s.now at opt_date (date_at result) × (s.now ≡ s.now) }
+pub fn opt_date(s: &[u8], at: usize) -> (Option<Day>, usize)
+    ensures { Finds s.now at opt_date (seen date_held) (Ok result) }
 {
     match parse_date(s, at) {
-        DateRead::No => DateAt::Is(DateHeld::Absent, at),
-        DateRead::Is(d, next) => DateAt::Is(DateHeld::Is(d), next),
+        Ok((date, next)) => (Some(date), next),
+        Err(_) => (None, at),
     }
 }

@@ -10,11 +10,9 @@ mod position;
 mod time;
 mod variation;
 
-pub use date::{Calendar, DateAt, DateHeld, DateRead, Day, opt_date, parse_date};
-pub use letter::{LetterHeld, letter_place, unit_letter, unit_place};
-pub use place::{ShortHeld, ShortPlace, date_place, position_place, short_place, time_place};
-pub use position::{
-    Both, BothAt, Coordinate, PositionAt, PositionHeld, SideAt, do_parse_lat_lon, parse_lat_lon,
-};
-pub use time::{TimeAt, TimeHeld, TimeOfDay, TimeRead, opt_hms, parse_hms};
-pub use variation::{MagneticAt, do_parse_magnetic_variation, parse_magnetic_variation};
+pub use date::{Day, opt_date, parse_date};
+pub use letter::{letter_place, unit_letter, unit_place};
+pub use place::{date_place, position_place, short_place, time_place};
+pub use position::{Both, Coordinate, do_parse_lat_lon, parse_lat_lon};
+pub use time::{TimeOfDay, opt_hms, parse_hms};
+pub use variation::{do_parse_magnetic_variation, parse_magnetic_variation};

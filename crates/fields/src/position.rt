@@ -1,14 +1,13 @@
 // Latitude and longitude.
 ghost use Rattle.std.specs.Prelude.{◌≡◌, ◌<◌, nat_abs};
-ghost use Rattle.text.specs.Placed.{Reads};
-ghost use Rattle.text.specs.Answer.{next};
+ghost use Rattle.text.specs.Answer.{Finds, next, seen};
 ghost use Rattle.decimal.specs.Places.{turned};
 ghost use Rattle.decimal.specs.Answer.{a_long};
 ghost use Rattle.fields.specs.Position.{billionths_of, degrees_of, position_of, side, latitude, longitude, do_lat_lon, commas, lat_lon};
-ghost use Rattle.fields.specs.Answer.{coordinate, side_at, both_at, position_at};
+ghost use Rattle.fields.specs.Answer.{coordinate, both, position_held};
 
-use decimal::{LongAt, LongDecimal};
-use text::{Letter, Next, Whole};
+use decimal::LongDecimal;
+use text::{Fault, Parsed};
 
 // A signed count of billionths of a minute, its letter, and the f64 in degrees.
 #[derive(Clone, Copy)]
@@ -58,51 +57,30 @@ fn located(deg: u8, m: LongDecimal, letter: u8, minus: bool) -> Coordinate
     }
 }
 
-// A coordinate and the next place, no match, or the refusal Number.
-#[derive(Clone, Copy)]
-pub enum SideAt {
-    No,
-    Is(Coordinate, usize),
-    Number,
-}
-
 // Minutes, a comma and one of two letters, of which the second negates.
-fn side(s: &[u8], at: usize, plus: u8, minus: u8, deg: u8) -> SideAt
-    ensures { Reads s.now at (side plus minus deg) (side_at result) × (s.now ≡ s.now) }
+fn side(s: &[u8], at: usize, plus: u8, minus: u8, deg: u8) -> Parsed<Coordinate>
+    ensures { Finds s.now at (side plus minus deg) (seen coordinate) result }
 {
-    match decimal::long_decimal(s, at) {
-        LongAt::Absent(_) => SideAt::No,
-        LongAt::Is(m, at) => {
-            let Next::At(at) = text::byte(s, at, b',') else {
-                return SideAt::No;
-            };
-            let Letter::Is(letter, at) = text::one_of(s, at, plus, minus) else {
-                return SideAt::No;
-            };
-            let c = located(deg, m, letter, letter == minus);
-            SideAt::Is(c, at)
-        }
-        LongAt::Number => SideAt::Number,
-    }
+    let (minutes, at) = decimal::long_decimal(s, at)?;
+    let minutes = minutes.ok_or(Fault::NoMatch)?;
+    let at = text::byte(s, at, b',')?;
+    let (letter, at) = text::one_of(s, at, plus, minus)?;
+    Ok((located(deg, minutes, letter, letter == minus), at))
 }
 
 // Two bytes of degrees, minutes, N or S.
-fn latitude(s: &[u8], at: usize) -> SideAt
-    ensures { Reads s.now at latitude (side_at result) × (s.now ≡ s.now) }
+fn latitude(s: &[u8], at: usize) -> Parsed<Coordinate>
+    ensures { Finds s.now at latitude (seen coordinate) result }
 {
-    let Whole::Is(deg, at) = text::two(s, at) else {
-        return SideAt::No;
-    };
+    let (deg, at) = text::two(s, at)?;
     side(s, at, b'N', b'S', deg as u8)
 }
 
 // Three bytes of degrees, minutes, E or W.
-fn longitude(s: &[u8], at: usize) -> SideAt
-    ensures { Reads s.now at longitude (side_at result) × (s.now ≡ s.now) }
+fn longitude(s: &[u8], at: usize) -> Parsed<Coordinate>
+    ensures { Finds s.now at longitude (seen coordinate) result }
 {
-    let Whole::Is(deg, at) = text::three(s, at) else {
-        return SideAt::No;
-    };
+    let (deg, at) = text::three(s, at)?;
     side(s, at, b'E', b'W', deg as u8)
 }
 
@@ -113,72 +91,32 @@ pub struct Both {
     pub lon: Coordinate,
 }
 
-// Both coordinates and the next place, no match, or the refusal Number.
-#[derive(Clone, Copy)]
-pub enum BothAt {
-    No,
-    Is(Both, usize),
-    Number,
-}
-
 // All four parts: latitude, its letter, longitude, its letter.
-pub fn do_parse_lat_lon(s: &[u8], at: usize) -> BothAt
-    ensures { Reads s.now at do_lat_lon (both_at result) × (s.now ≡ s.now) }
+pub fn do_parse_lat_lon(s: &[u8], at: usize) -> Parsed<Both>
+    ensures { Finds s.now at do_lat_lon (seen both) result }
 {
-    match latitude(s, at) {
-        SideAt::No => BothAt::No,
-        SideAt::Is(lat, at) => {
-            let Next::At(at) = text::byte(s, at, b',') else {
-                return BothAt::No;
-            };
-            match longitude(s, at) {
-                SideAt::No => BothAt::No,
-                SideAt::Is(lon, at) => BothAt::Is(Both { lat: lat, lon: lon }, at),
-                SideAt::Number => BothAt::Number,
-            }
-        }
-        SideAt::Number => BothAt::Number,
-    }
+    let (lat, at) = latitude(s, at)?;
+    let at = text::byte(s, at, b',')?;
+    let (lon, at) = longitude(s, at)?;
+    Ok((Both { lat: lat, lon: lon }, at))
 }
 
 // Three commas.
-fn commas(s: &[u8], at: usize) -> Next
-    ensures { Reads s.now at commas (next result) × (s.now ≡ s.now) }
+fn commas(s: &[u8], at: usize) -> Result<usize, Fault>
+    ensures { Finds s.now at commas next result }
 {
-    let Next::At(at) = text::byte(s, at, b',') else {
-        return Next::No;
-    };
-    let Next::At(at) = text::byte(s, at, b',') else {
-        return Next::No;
-    };
+    let at = text::byte(s, at, b',')?;
+    let at = text::byte(s, at, b',')?;
     text::byte(s, at, b',')
 }
 
-// A position that may be absent.
-#[derive(Clone, Copy)]
-pub enum PositionHeld {
-    Absent,
-    Is(Both),
-}
-
-// A position that may be absent, and the next place; no match; or the refusal Number.
-#[derive(Clone, Copy)]
-pub enum PositionAt {
-    No,
-    Is(PositionHeld, usize),
-    Number,
-}
-
 // Exactly three commas, or all four parts.
-pub fn parse_lat_lon(s: &[u8], at: usize) -> PositionAt
-    ensures { Reads s.now at lat_lon (position_at result) × (s.now ≡ s.now) }
+pub fn parse_lat_lon(s: &[u8], at: usize) -> Parsed<Option<Both>>
+    ensures { Finds s.now at lat_lon (seen position_held) result }
 {
-    match commas(s, at) {
-        Next::At(p) => PositionAt::Is(PositionHeld::Absent, p),
-        Next::No => match do_parse_lat_lon(s, at) {
-            BothAt::No => PositionAt::No,
-            BothAt::Is(b, p) => PositionAt::Is(PositionHeld::Is(b), p),
-            BothAt::Number => PositionAt::Number,
-        },
+    if let Ok(at) = commas(s, at) {
+        return Ok((None, at));
     }
+    let (both, at) = do_parse_lat_lon(s, at)?;
+    Ok((Some(both), at))
 }

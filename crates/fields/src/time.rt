@@ -1,11 +1,11 @@
 // The time of day.
-ghost use Rattle.std.specs.Prelude.{◌≡◌, ◌≤◌, ◌*◌, ◌-◌, ◌^◌};
-ghost use Rattle.text.specs.Placed.{Reads};
+ghost use Rattle.std.specs.Prelude.{◌≡◌, ℕ, List, ◌≤◌, ◌*◌, ◌-◌, ◌^◌};
+ghost use Rattle.text.specs.Answer.{Finds, seen};
 ghost use Rattle.fields.specs.Time.{clock, hms, opt_hms};
-ghost use Rattle.fields.specs.Answer.{time_read, time_at};
+ghost use Rattle.fields.specs.Answer.{time_of, time_held};
 
-use decimal::{LongAt, LongDecimal};
-use text::Whole;
+use decimal::LongDecimal;
+use text::{Fault, Parsed};
 
 #[derive(Clone, Copy)]
 pub struct TimeOfDay {
@@ -15,92 +15,59 @@ pub struct TimeOfDay {
     pub nanosecond: u32,
 }
 
-// A time and the next place, no match, or a refusal.
-#[derive(Clone, Copy)]
-pub enum TimeRead {
-    No,
-    Is(TimeOfDay, usize),
-    Number,
-    BadTime,
-}
-
-// What hour, minute and seconds make: the ranges first, then BadTime.
-fn on_clock(s: &[u8], at: usize, hour: u32, minute: u32, d: LongDecimal) -> TimeRead
-    requires { (d.decimals ≤ 9) × (d.billionths ≡ d.size * 10 ^ (9 - d.decimals)) }
-    ensures { Reads s.now at (clock hour minute d.size d.decimals) (time_read result) × (s.now ≡ s.now) }
+// What hour, minute and seconds make, at whatever place: the ranges first, then BadTime.
+fn on_clock(hour: u32, minute: u32, d: LongDecimal) -> Result<TimeOfDay, Fault>
+    requires decimals { d.decimals ≤ 9 }
+    requires billionths { d.billionths ≡ d.size * 10 ^ (9 - d.decimals) }
+    ensures { (s : List ℕ) (at : ℕ) → Finds s at (clock hour minute d.size d.decimals) (λ t. (time_of t, at)) result }
 {
     if 24 <= hour {
-        return TimeRead::No;
+        return Err(Fault::NoMatch);
     }
     if 60 <= minute {
-        return TimeRead::No;
+        return Err(Fault::NoMatch);
     }
     let all = d.billionths;
     let second = all / 1000000000;
     if 60 <= second {
-        return TimeRead::No;
+        return Err(Fault::NoMatch);
     }
     let nanosecond = all % 1000000000;
     if 1000000000 <= nanosecond {
-        return TimeRead::BadTime;
+        return Err(Fault::BadTime);
     }
-    TimeRead::Is(
-        TimeOfDay {
-            hour: hour,
-            minute: minute,
-            second: second as u32,
-            nanosecond: nanosecond as u32,
-        },
-        at,
-    )
+    Ok(TimeOfDay {
+        hour: hour,
+        minute: minute,
+        second: second as u32,
+        nanosecond: nanosecond as u32,
+    })
 }
 
 // Hour, minute and seconds.
-pub fn parse_hms(s: &[u8], at: usize) -> TimeRead
-    ensures { Reads s.now at hms (time_read result) × (s.now ≡ s.now) }
+pub fn parse_hms(s: &[u8], at: usize) -> Parsed<TimeOfDay>
+    ensures { Finds s.now at hms (seen time_of) result }
 {
-    let Whole::Is(hour, at) = text::two(s, at) else {
-        return TimeRead::No;
-    };
-    let Whole::Is(minute, at) = text::two(s, at) else {
-        return TimeRead::No;
-    };
-    match decimal::long_decimal(s, at) {
-        LongAt::Absent(_) => TimeRead::No,
-        LongAt::Is(d, at) => {
-            if d.minus {
-                return TimeRead::No;
-            }
-            on_clock(s, at, hour, minute, d)
-        }
-        LongAt::Number => TimeRead::Number,
+    let (hour, at) = text::two(s, at)?;
+    let (minute, at) = text::two(s, at)?;
+    let (seconds, at) = decimal::long_decimal(s, at)?;
+    let seconds = seconds.ok_or(Fault::NoMatch)?;
+    if seconds.minus {
+        return Err(Fault::NoMatch);
     }
-}
-
-// A time that may be absent.
-#[derive(Clone, Copy)]
-pub enum TimeHeld {
-    Absent,
-    Is(TimeOfDay),
-}
-
-// A time that may be absent, and the next place; no match; or a refusal.
-#[derive(Clone, Copy)]
-pub enum TimeAt {
-    No,
-    Is(TimeHeld, usize),
-    Number,
-    BadTime,
+    let time = on_clock(hour, minute, seconds)?;
+    Ok((time, at))
 }
 
 // A time, if one stands there.
-pub fn opt_hms(s: &[u8], at: usize) -> TimeAt
-    ensures { Reads s.now at opt_hms (time_at result) × (s.now ≡ s.now) }
+pub fn opt_hms(s: &[u8], at: usize) -> Parsed<Option<TimeOfDay>>
+    ensures { Finds s.now at opt_hms (seen time_held) result }
 {
     match parse_hms(s, at) {
-        TimeRead::No => TimeAt::Is(TimeHeld::Absent, at),
-        TimeRead::Is(t, next) => TimeAt::Is(TimeHeld::Is(t), next),
-        TimeRead::Number => TimeAt::Number,
-        TimeRead::BadTime => TimeAt::BadTime,
+        Ok((time, next)) => Ok((Some(time), next)),
+        Err(fault) => match fault {
+            Fault::NoMatch => Ok((None, at)),
+            _ => Err(fault),
+        },
     }
 }

@@ -1,13 +1,12 @@
 // The magnetic variation.
 ghost use Rattle.std.specs.Prelude.{◌≡◌, ◌<◌, nat_abs};
-ghost use Rattle.text.specs.Placed.{Reads};
+ghost use Rattle.text.specs.Answer.{Finds, seen};
 ghost use Rattle.decimal.specs.Answer.{a_short};
 ghost use Rattle.fields.specs.Variation.{variation_of, do_variation, variation};
-ghost use Rattle.fields.specs.Answer.{magnetic_at, short_place_at};
+ghost use Rattle.fields.specs.Answer.{short_held};
 
-use crate::place::{ShortHeld, ShortPlace};
-use decimal::{ShortAt, ShortDecimal};
-use text::{Letter, Next};
+use decimal::ShortDecimal;
+use text::{Fault, Parsed};
 
 // A decimal, negated for west: zero west is minus zero.
 fn turned(d: ShortDecimal, west: bool) -> ShortDecimal
@@ -25,44 +24,24 @@ fn turned(d: ShortDecimal, west: bool) -> ShortDecimal
     }
 }
 
-// A variation and the next place, no match, or the refusal Number.
-#[derive(Clone, Copy)]
-pub enum MagneticAt {
-    No,
-    Is(ShortDecimal, usize),
-    Number,
-}
-
 // A short decimal, a comma and E or W.
-pub fn do_parse_magnetic_variation(s: &[u8], at: usize) -> MagneticAt
-    ensures { Reads s.now at do_variation (magnetic_at result) × (s.now ≡ s.now) }
+pub fn do_parse_magnetic_variation(s: &[u8], at: usize) -> Parsed<ShortDecimal>
+    ensures { Finds s.now at do_variation (seen a_short) result }
 {
-    match decimal::short_decimal(s, at) {
-        ShortAt::Absent(_) => MagneticAt::No,
-        ShortAt::Is(d, at) => {
-            let Next::At(at) = text::byte(s, at, b',') else {
-                return MagneticAt::No;
-            };
-            let Letter::Is(letter, at) = text::one_of(s, at, b'E', b'W') else {
-                return MagneticAt::No;
-            };
-            let v = turned(d, letter == b'W');
-            MagneticAt::Is(v, at)
-        }
-        ShortAt::Number => MagneticAt::Number,
-    }
+    let (d, at) = decimal::short_decimal(s, at)?;
+    let d = d.ok_or(Fault::NoMatch)?;
+    let at = text::byte(s, at, b',')?;
+    let (letter, at) = text::one_of(s, at, b'E', b'W')?;
+    Ok((turned(d, letter == b'W'), at))
 }
 
 // A comma at once, of which only that comma is eaten, or a variation.
-pub fn parse_magnetic_variation(s: &[u8], at: usize) -> ShortPlace
-    ensures { Reads s.now at variation (short_place_at result) × (s.now ≡ s.now) }
+pub fn parse_magnetic_variation(s: &[u8], at: usize) -> Parsed<Option<ShortDecimal>>
+    ensures { Finds s.now at variation (seen short_held) result }
 {
-    match text::byte(s, at, b',') {
-        Next::At(p) => ShortPlace::Is(ShortHeld::Absent, p),
-        Next::No => match do_parse_magnetic_variation(s, at) {
-            MagneticAt::No => ShortPlace::No,
-            MagneticAt::Is(v, p) => ShortPlace::Is(ShortHeld::Is(v), p),
-            MagneticAt::Number => ShortPlace::Number,
-        },
+    if let Ok(at) = text::byte(s, at, b',') {
+        return Ok((None, at));
     }
+    let (variation, at) = do_parse_magnetic_variation(s, at)?;
+    Ok((Some(variation), at))
 }

@@ -2,7 +2,7 @@
 -- Assumes nothing.
 use Prim.Native.Nat.{ℕ, ◌+◌, ◌-◌, ◌*◌, ◌≤◌, ◌<◌}
 use native.Mathlib.Omega.{arith}
-use mathlib.Core.Path.{◌≡◌, refl, ap, sym, ◌∙◌}
+use mathlib.Core.Path.{◌≡◌, refl, ap, ◌∙◌}
 use mathlib.Core.Bool.{true, false}
 use mathlib.Core.List.{List, [], ◌∷◌}
 use mathlib.Core.Option.{Option, none, some}
@@ -11,20 +11,9 @@ use Rattle.text.specs.Bytes.{byte}
 use Rattle.text.specs.Reader.{UnknownType, miss, refuse, got, char, or_miss}
 use Rattle.frame.specs.Types.{types, listed}
 use Rattle.frame.specs.Digits.{digit, lead_digit, sixteens, hex}
-use Rattle.frame.specs.Code.{or_sixteen}
 use Rattle.frame.specs.Frame.{taken, known, sentence_type, checksum_field}
-use Rattle.frame.proofs.Units.{digit-low, lead-low}
 use Rattle.text.proofs.Binds.{bind-miss, bind-got, char-here, char-other, miss-after}
-use Rattle.frame.proofs.Taken.{two-of, three-of, next-three, taken-short}
-
--- a digit as the code has it
-is-digit : (o : Option ℕ) → or_sixteen o ≤ 15 → o ≡ some (or_sixteen o)
-is-digit none h = absurd (omega arith)
-is-digit (some v) h = refl
-
-no-digit : (o : Option ℕ) → ((v : ℕ) → o ≡ some v → v ≤ 15) → 15 < or_sixteen o → o ≡ none
-no-digit none f h = refl
-no-digit (some v) f h = let k = f v refl in absurd (omega arith)
+use Rattle.frame.proofs.Taken.{two-of, three-of, taken-short, Rest, rest-three}
 
 later-none : (o p : Option ℕ) → p ≡ none → sixteens o p ≡ none
 later-none none p e = refl
@@ -60,29 +49,26 @@ module _ (y z : ℕ) (l : List ℕ) where
   field-later e = field-of y z l ∙ rw (later-none (lead_digit y) (digit z) e)
 
 -- at a place of a text
-module _ (s : List ℕ) (at : ℕ) where
-  pub short-field : length s - at < 3 → checksum_field (drop at s) ≡ miss
-  short-field h = field-short (drop at s) (simp length-drop h)
+pub short-field : (s : List ℕ) (at : ℕ) → length s - at < 3 → checksum_field (drop at s) ≡ miss
+short-field s at h = field-short (drop at s) (simp length-drop h)
 
-  module _ (h : 3 + at ≤ length s) where
-    pub other-field : (get_or s at 0 ≡ byte "*" → ⊥) → checksum_field (drop at s) ≡ miss
-    other-field n = ap checksum_field (next-three s at h) ∙ field-other _ _ n
+-- three bytes of it, as `get` lends them
+module _ {s : List ℕ} {at : ℕ} {p : List ℕ} (r : Rest s at p) (h : 3 ≤ length p) where
+  pub other-field : (get_or p 0 0 ≡ byte "*" → ⊥) → checksum_field (drop at s) ≡ miss
+  other-field n = ap checksum_field (rest-three r h) ∙ field-other _ _ n
 
-    module _ (star : get_or s at 0 ≡ byte "*") where
-      starred : drop at s ≡ byte "*" ∷ get_or s (at + 1) 0 ∷ get_or s (at + 2) 0 ∷ drop (at + 3) s
-      starred = next-three s at h ∙ ap (λ (x : ℕ). x ∷ get_or s (at + 1) 0 ∷ get_or s (at + 2) 0 ∷ drop (at + 3) s) star
+  module _ (star : get_or p 0 0 ≡ byte "*") where
+    starred : drop at s ≡ byte "*" ∷ get_or p 1 0 ∷ get_or p 2 0 ∷ drop (at + 3) s
+    starred = rest-three r h ∙ ap (λ (x : ℕ). x ∷ get_or p 1 0 ∷ get_or p 2 0 ∷ drop (at + 3) s) star
 
-      pub lead-field : {x : ℕ} → x ≡ or_sixteen (lead_digit (get_or s (at + 1) 0)) → 15 < x → checksum_field (drop at s) ≡ miss
-      lead-field p k = ap checksum_field starred ∙ field-lead _ _ _ (no-digit (lead_digit (get_or s (at + 1) 0)) (lead-low (get_or s (at + 1) 0)) (rw p at k))
+    pub lead-field : lead_digit (get_or p 1 0) ≡ none → checksum_field (drop at s) ≡ miss
+    lead-field e = ap checksum_field starred ∙ field-lead _ _ _ e
 
-      pub later-field : {y : ℕ} → y ≡ or_sixteen (digit (get_or s (at + 2) 0)) → 15 < y → checksum_field (drop at s) ≡ miss
-      later-field p k = ap checksum_field starred ∙ field-later _ _ _ (no-digit _ (digit-low _) (rw p at k))
+    pub later-field : digit (get_or p 2 0) ≡ none → checksum_field (drop at s) ≡ miss
+    later-field e = ap checksum_field starred ∙ field-later _ _ _ e
 
-      pub got-field : {x y : ℕ} → x ≡ or_sixteen (lead_digit (get_or s (at + 1) 0)) → y ≡ or_sixteen (digit (get_or s (at + 2) 0)) → x ≤ 15 → y ≤ 15
-          → checksum_field (drop at s) ≡ got (x * 16 + y) (drop (at + 3) s)
-      got-field {x} {y} p q j k =
-          ap checksum_field starred
-          ∙ field-got _ _ _ (is-digit _ (rw p at j) ∙ ap some (sym p)) (is-digit _ (rw q at k) ∙ ap some (sym q))
+    pub got-field : {a b : ℕ} → lead_digit (get_or p 1 0) ≡ some a → digit (get_or p 2 0) ≡ some b → checksum_field (drop at s) ≡ got (a * 16 + b) (drop (at + 3) s)
+    got-field e f = ap checksum_field starred ∙ field-got _ _ _ e f
 
 -- three bytes
 type-of : (a b c : ℕ) (l : List ℕ) → sentence_type (a ∷ b ∷ c ∷ l) ≡ known (a ∷ b ∷ c ∷ []) l
@@ -98,15 +84,6 @@ module _ (a b c : ℕ) (l : List ℕ) where
   unfolding known
   type-unknown e = type-of a b c l ∙ rw e
 
-module _ (s : List ℕ) (at : ℕ) where
-  pub short-type : length s - at < 3 → sentence_type (drop at s) ≡ miss
-  unfolding sentence_type
-  short-type h = bind-miss (taken 3) _ _ (taken-short s at 3 h)
-
-  module _ (h : 3 + at ≤ length s) where
-    pub known-type : listed types (get_or s at 0 ∷ get_or s (at + 1) 0 ∷ get_or s (at + 2) 0 ∷ []) ≡ true
-        → sentence_type (drop at s) ≡ got (get_or s at 0 ∷ get_or s (at + 1) 0 ∷ get_or s (at + 2) 0 ∷ []) (drop (at + 3) s)
-    known-type e = ap sentence_type (next-three s at h) ∙ type-known _ _ _ _ e
-
-    pub unknown-type : listed types (get_or s at 0 ∷ get_or s (at + 1) 0 ∷ get_or s (at + 2) 0 ∷ []) ≡ false → sentence_type (drop at s) ≡ refuse UnknownType
-    unknown-type e = ap sentence_type (next-three s at h) ∙ type-unknown _ _ _ _ e
+pub short-type : (s : List ℕ) (at : ℕ) → length s - at < 3 → sentence_type (drop at s) ≡ miss
+unfolding sentence_type
+short-type s at h = bind-miss (taken 3) _ _ (taken-short s at 3 h)

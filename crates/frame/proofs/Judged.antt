@@ -1,18 +1,25 @@
 -- The outcome of a line, by what each check found. The code asks for ASCII first: an ASCII text is valid UTF-8, so the order of 01
 -- gives the same. Assumes nothing.
 use Prim.Native.Nat.{ℕ, ◌≤◌, ◌<◌}
-use mathlib.Core.Path.{◌≡◌, ap, sym, ◌∙◌}
+use mathlib.Core.Path.{◌≡◌, refl, ap, sym, ◌∙◌}
 use mathlib.Core.Bool.{true, false}
 use mathlib.Core.List.{List}
+use Rattle.std.specs.Prelude.{Err}
 use lib.ListN.{length}
 use lib.Seq.{slice}
 use borrow.Author.Tests.{le-leb, lt-leb, eq-eqb, ne_eqb}
 use Rattle.utf8.specs.Utf8.{utf8, ascii}
 use Rattle.utf8.proofs.Ascii.{ascii-utf8}
 use Rattle.text.specs.Reader.{Fault, miss, refuse, got}
+use Rattle.text.specs.Answer.{Finds}
+use Rattle.text.specs.declared.Fault.{Fault as Found}
+use Rattle.text.specs.declared.Fault.TheVariants.{NoMatch, UnknownType as IsUnknown, Number as IsNumber, BadTime as IsBadTime}
+use Rattle.text.proofs.Places.{missed, barred}
 use Rattle.frame.specs.Refused.{bad_utf8, not_ascii, too_long, syntax_error, bad_checksum, faulted}
 use Rattle.frame.specs.Checksum.{checksum}
 use Rattle.frame.specs.Frame.{max_length, Parts, accepted, refused, sentence, compared, judged, sized, frame}
+use Rattle.frame.specs.Answer.{refused as why}
+use Rattle.frame.specs.Answer.{refusal_of, read}
 use Rattle.frame.proofs.Shape.{shaped, between}
 
 module _ (s : List ℕ) where
@@ -42,6 +49,13 @@ module _ (s : List ℕ) where
 
     pub sized-refuse : {f : Fault} → sentence s ≡ refuse f → sized s ≡ refused (faulted f)
     sized-refuse e = short ∙ ap judged e
+
+    -- a fault, as the refusal that the code makes of it
+    pub sized-fault : (e : Found) → Finds s 0 sentence (read s) (Err e) → sized s ≡ refused (why (refusal_of e))
+    sized-fault NoMatch t = sized-miss (missed t.reads refl)
+    sized-fault IsUnknown t = sized-refuse (barred t.reads refl)
+    sized-fault IsNumber t = sized-refuse (barred t.reads refl)
+    sized-fault IsBadTime t = sized-refuse (barred t.reads refl)
 
     pub sized-got : {p : Parts} {m : List ℕ} → sentence s ≡ got p m → sized s ≡ compared (checksum (slice 1 p.to s)) p
     sized-got {p} {m} e = short ∙ ap judged e ∙ sym (ap (λ (l : List ℕ). compared (checksum l) p) (between (shaped s p m e)))

@@ -9,6 +9,7 @@ pub mod Steps
 pub mod Until
 pub mod Stars
 pub mod Shape
+pub mod Handed
 pub mod Judged
 pub mod Quick
 pub mod OneByte

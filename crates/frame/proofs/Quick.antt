@@ -6,24 +6,23 @@ use mathlib.Core.Path.{◌≡◌, refl, ap, ◌∙◌}
 use mathlib.Core.Bool.{true, false, ◌&&◌}
 use mathlib.Core.List.{List, [], ◌∷◌, ◌++◌}
 use mathlib.Core.Option.{Option, none, some}
+use Rattle.std.specs.Prelude.{Ok}
 use lib.Dec.{ltb}
 use lib.ListN.{length, take, drop, get_or, length-drop, length-take}
 use lib.Seq.{slice}
 use borrow.Author.Tests.{lt-ltb}
 use Rattle.utf8.specs.Utf8.{ascii}
 use Rattle.text.specs.Bytes.{byte}
-use Rattle.text.specs.Reader.{UnknownType, got}
-use Rattle.text.specs.Placed.{Reads}
+use Rattle.text.specs.Reader.{UnknownType, among, got}
+use Rattle.text.specs.Answer.{Finds}
 use Rattle.text.proofs.Places.{here, ended, took}
 use Rattle.frame.specs.Refused.{unknown_type}
 use Rattle.frame.specs.Types.{types, listed}
 use Rattle.frame.specs.Checksum.{checksum}
 use Rattle.frame.specs.Digits.{digit, lead_digit, sixteens, hex}
 use Rattle.frame.specs.Frame.{max_length, data_from, Parts, refused, checksum_field, sentence, compared, frame}
-use Rattle.frame.specs.Code.{marked, Headed}
+use Rattle.frame.specs.Code.{Headed}
 use Rattle.frame.specs.Answer.{field}
-use Rattle.frame.specs.declared.sum.Digits.{Digits as Found}
-use Rattle.frame.specs.declared.sum.Digits.TheVariants.{Is as AreDigits}
 use Rattle.frame.proofs.Units.{digit-ascii, lead-ascii}
 use Rattle.frame.proofs.Taken.{next-three}
 use Rattle.frame.proofs.Until.{Clear, clear-drop}
@@ -42,9 +41,8 @@ ascii-digits y z {v} e = by (lead_digit y) (digit z) refl refl e
     by none p f g e = let z : ◌≡◌ {A = ℕ} 0 1 = cc in absurd (omega arith)
 
 -- digits that end a line leave nothing
-pub ends-with : {s : List ℕ} {to : ℕ} {r : Found} {v : ℕ} → Reads s to checksum_field (field to r) → r ≡ AreDigits v → length s ≤ to + 3
-    → checksum_field (drop to s) ≡ got v []
-ends-with {s} {to} {r} {v} t e h = (took t (ap (field to) e)).reads ∙ ap (got v) (ended s (to + 3) h)
+pub ends-with : {s : List ℕ} {to v : ℕ} → Finds s to checksum_field (field to) (Ok v) → length s ≤ to + 3 → checksum_field (drop to s) ≡ got v []
+ends-with {s} {to} {v} t h = (took t.reads refl).reads ∙ ap (got v) (ended s (to + 3) h)
 
 -- a line that begins as a sentence does, and ends at `to` with `*` and digits of the number `found`
 pub record Enclosed (s kind : List ℕ) (found to : ℕ) : Type 0 where
@@ -83,8 +81,8 @@ module _ (s : List ℕ) where
     tail : Digits (drop to s) found []
     tail = was-field (drop to s) found [] h.digits
 
-    data-clear : marked 0 (slice 1 to s) ≡ 0 → Clear (byte "*") (slice data_from to s)
-    data-clear m = rw (← past-head (take to s)) (clear-drop (byte "*") 6 (unmarked (slice 1 to s) m))
+    data-clear : among (byte "*") (slice 1 to s) ≡ false → Clear (byte "*") (slice data_from to s)
+    data-clear m = rw (← past-head (take to s)) (clear-drop (byte "*") 6 (unmarked (byte "*") (slice 1 to s) m))
 
     data-on : drop 6 s ≡ byte "," ∷ (slice data_from to s ++ (byte "*" ∷ tail.y ∷ tail.z ∷ []))
     data-on =
@@ -102,7 +100,7 @@ module _ (s : List ℕ) where
         let g : length (slice data_from to s) ≡ to - data_from = simp (length-drop, length-take) (omega (arith, h.end)) in
         omega (arith, room)
 
-    read-whole : marked 0 (slice 1 to s) ≡ 0 → sentence s ≡ got parts-in []
+    read-whole : among (byte "*") (slice 1 to s) ≡ false → sentence s ≡ got parts-in []
     read-whole m =
         ap sentence lined
         ∙ line-back _ _ _ _ _ (rw h.head.letters at h.head.known) tail.y tail.z [] (data-clear m) tail.digits
@@ -112,6 +110,6 @@ module _ (s : List ℕ) where
     low {top} k a = a ∙ rw (lt-ltb top 0x80 (omega arith), tail.line) (ascii-digits tail.y tail.z tail.digits)
 
     -- what one pass finds decides
-    pub enclosed-frame : {top : ℕ} → marked 0 (slice 1 to s) ≡ 0 → top ≤ 127 → ascii s ≡ (ltb top 0x80 && ascii (drop to s))
+    pub enclosed-frame : {top : ℕ} → among (byte "*") (slice 1 to s) ≡ false → top ≤ 127 → ascii s ≡ (ltb top 0x80 && ascii (drop to s))
         → frame s ≡ compared (checksum (slice 1 to s)) parts-in
     enclosed-frame m k a = frame-ascii s (low k a) ∙ sized-got s h.head.short (read-whole m)

@@ -5,10 +5,9 @@ use mathlib.Core.Path.{◌≡◌, refl}
 use mathlib.Core.Bool.{Bool, true, false, cond, ◌&&◌}
 use mathlib.Core.Option.{none, some}
 use lib.Dec.{leb, ltb, eqb}
-use borrow.Author.Tests.{le-leb, lt-leb, leb-true, lt-ltb, ltb-false, eq-eqb, eqb-true, ne_eqb}
+use borrow.Author.Tests.{le-leb, lt-leb, leb-true, lt-ltb, ltb-false, eqb-true}
 use Rattle.text.specs.Bytes.{byte}
 use Rattle.frame.specs.Digits.{within, digit, lead_digit}
-use Rattle.frame.specs.Code.{or_sixteen}
 
 module _ (lo hi b : ℕ) where
   inside : lo ≤ b → b ≤ hi → within lo hi b ≡ true
@@ -98,10 +97,3 @@ module _ (b : ℕ) where
       by : (t : Bool) → eqb b (byte "+") ≡ t → cond t (some 0) (digit b) ≡ some v → ltb b 0x80 ≡ true
       by true h e = let k = eqb-true b (byte "+") h in lt-ltb b 0x80 (omega arith)
       by false h e = digit-ascii e
-
-  -- a first byte, by what it is: `+`, or as a digit
-  pub lead-plus : b ≡ byte "+" → 0 ≡ or_sixteen (lead_digit b)
-  lead-plus e = rw (eq-eqb b (byte "+") e)
-
-  pub lead-other : {x : ℕ} → (b ≡ byte "+" → ⊥) → x ≡ or_sixteen (digit b) → x ≡ or_sixteen (lead_digit b)
-  lead-other n e = rw (ne_eqb b (byte "+") n) e

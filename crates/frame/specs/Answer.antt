@@ -1,9 +1,8 @@
 -- What each answer of the code says.
-use Rattle.std.specs.Prelude.{ℕ, ◌+◌, List, [], ◌∷◌, cond, leb, length}
+use Rattle.std.specs.Prelude.{ℕ, ◌+◌, List, [], ◌∷◌, cond, leb, length, Result, Ok, Err}
 use Rattle.std.proofs.Math.Seq.{slice}
-use Rattle.text.specs.Reader.{UnknownType}
-use Rattle.text.specs.Placed.{Placed, unread, upto}
-use Rattle.text.specs.Placed.{refused as barred}
+use Rattle.text.specs.declared.Fault.{Fault}
+use Rattle.text.specs.declared.Fault.TheVariants.{NoMatch, UnknownType, Number, BadTime}
 use Rattle.frame.specs.Refused.{Refused, bad_utf8, not_ascii, too_long, syntax_error, unknown_type, bad_checksum, unknown_talker, system_mismatch, bad_number, wrong_header, bad_time, log_too_long, bad_place}
 use Rattle.frame.specs.Frame.{Parts, Outcome, accepted}
 use Rattle.frame.specs.Frame.{refused as refusal}
@@ -12,16 +11,6 @@ use Rattle.frame.specs.declared.refusal.Kind.{Kind}
 use Rattle.frame.specs.declared.refusal.Refusal.{Refusal}
 use Rattle.frame.specs.declared.refusal.Refusal.TheVariants as variant
 use Rattle.frame.specs.declared.sentence.Sentence.{Sentence}
-use Rattle.frame.specs.declared.sum.Digits.{Digits}
-use Rattle.frame.specs.declared.sum.Digits.TheVariants.{No as NoDigits, Is as AreDigits}
-use Rattle.frame.specs.declared.parse.Two.{Two}
-use Rattle.frame.specs.declared.parse.Two.TheVariants.{No as NoTwo, Is as AreTwo}
-use Rattle.frame.specs.declared.parse.Three.{Three}
-use Rattle.frame.specs.declared.parse.Three.TheVariants.{No as NoThree, Unknown as UnknownThree, Is as AreThree}
-use Rattle.frame.specs.declared.parse.Read.{Read}
-use Rattle.frame.specs.declared.parse.Read.TheVariants.{No as NoSentence, Unknown as UnknownSentence, Is as ASentence}
-use Rattle.frame.specs.declared.parse.Framed.{Framed}
-use Rattle.frame.specs.declared.parse.Framed.TheVariants.{Is as Accepted, Refused as NotAccepted}
 
 abbrev pub talker_bytes : Talker → List ℕ
 talker_bytes t = t.0 ∷ t.1 ∷ []
@@ -48,6 +37,13 @@ refused (variant.BadPlace p) = bad_place p
 abbrev pub number_of : Refusal → ℕ
 number_of r = (refused r).number
 
+-- a reader's fault, at the top: no match is Syntax
+abbrev pub refusal_of : Fault → Refusal
+refusal_of NoMatch = variant.Syntax
+refusal_of UnknownType = variant.UnknownType
+refusal_of Number = variant.Number
+refusal_of BadTime = variant.BadTime
+
 -- a sentence of the line `s`
 abbrev pub parts : List ℕ → Sentence → Parts
 parts s x =
@@ -57,24 +53,19 @@ parts s x =
 abbrev pub data_of : Sentence → List ℕ → List ℕ
 data_of x s = cond (leb x.to (length s)) (slice x.from x.to s) []
 
-abbrev pub field : ℕ → Digits → Placed ℕ
-field at NoDigits = unread
-field at (AreDigits v) = upto v (at + 3)
+-- what a reader of the code found, and the next place
+abbrev pub field : ℕ → ℕ → ℕ × ℕ
+field at v = (v, at + 3)
 
-abbrev pub talker_at : ℕ → Two → Placed (List ℕ)
-talker_at at NoTwo = unread
-talker_at at (AreTwo t) = upto (talker_bytes t) (at + 2)
+abbrev pub talker_at : ℕ → Talker → List ℕ × ℕ
+talker_at at t = (talker_bytes t, at + 2)
 
-abbrev pub kind_at : ℕ → Three → Placed (List ℕ)
-kind_at at NoThree = unread
-kind_at at UnknownThree = barred UnknownType
-kind_at at (AreThree k) = upto (letters k) (at + 3)
+abbrev pub kind_at : ℕ → Kind → List ℕ × ℕ
+kind_at at k = (letters k, at + 3)
 
-abbrev pub read : List ℕ → Read → Placed Parts
-read s NoSentence = unread
-read s UnknownSentence = barred UnknownType
-read s (ASentence x) = upto (parts s x) (x.to + 3)
+abbrev pub read : List ℕ → Sentence → Parts × ℕ
+read s x = (parts s x, x.to + 3)
 
-abbrev pub framed : List ℕ → Framed → Outcome
-framed s (Accepted x) = accepted (parts s x)
-framed s (NotAccepted r) = refusal (refused r)
+abbrev pub framed : List ℕ → Result Sentence Refusal → Outcome
+framed s (Ok x) = accepted (parts s x)
+framed s (Err r) = refusal (refused r)

@@ -8,7 +8,7 @@ mod sentence;
 mod star;
 mod sum;
 
-pub use parse::{Framed, data_of, parse_nmea_sentence};
+pub use parse::{data_of, parse_nmea_sentence};
 pub use refusal::{Kind, Refusal, Talker};
 pub use sentence::{Sentence, known};
 pub use sum::checksum;

@@ -1,13 +1,12 @@
 // A framed sentence, by value: its data is a range of the line that it was read from.
-ghost use Rattle.std.specs.Prelude.{true, ◌≡◌};
-ghost use Rattle.frame.specs.Types.{types, alike, listed};
+ghost use Rattle.std.specs.Prelude.{true, ◌≡◌, ℕ, [], ◌∷◌};
+ghost use Rattle.frame.specs.Types.{types, listed};
 ghost use Rattle.frame.specs.Answer.{letters, data_of};
-ghost use Rattle.frame.specs.Code.{Begins};
 
 use crate::refusal::{Kind, Talker};
 
 // `$GPGSA,A,1,,,,*32` has the talker GP, the type GSA, the checksum 0x32, and its data `A,1,,,,` from 7 up to 14.
-#[derive(Clone, Copy)]
+#[derive(Clone, Copy, Debug, PartialEq, Eq)]
 pub struct Sentence {
     pub talker: Talker,
     pub kind: Kind,
@@ -33,90 +32,56 @@ impl Sentence {
         ensures { result ≡ record { talker = talker; kind = kind; checksum = checksum; from = from; to = to } }
     {
         Self {
-            talker: talker,
-            kind: kind,
-            checksum: checksum,
-            from: from,
-            to: to,
+            talker,
+            kind,
+            checksum,
+            from,
+            to,
         }
     }
 
     // The data, a part of the line `s`; empty where the range does not lie in `s`.
     pub fn data(self, s: &[u8]) -> &[u8]
-        ensures { (result.now ≡ data_of self s.now) × (s.now ≡ s.now) }
+        ensures { result.now ≡ data_of self s.now }
     {
-        let from = self.from;
-        let to = self.to;
-        if to < from {
-            return &s[0..0];
-        }
-        if s.len() < to {
-            return &s[0..0];
-        }
-        &s[from..to]
+        s.get(self.from..self.to).unwrap_or(&[])
     }
-}
-
-// Whether a type has these letters.
-fn same(kind: Kind, t: [u8; 3]) -> bool
-    ensures { result ≡ alike (letters kind) t }
-{
-    if kind.0 != t[0] {
-        return false;
-    }
-    if kind.1 != t[1] {
-        return false;
-    }
-    kind.2 == t[2]
-}
-
-// A part of the table of types: its first place, and the place after it.
-#[derive(Clone, Copy)]
-struct Range {
-    from: usize,
-    to: usize,
 }
 
 // The types in the table that begin with a letter.
-fn beginning(a: u8) -> Range
-    ensures { Begins a result }
+fn beginning(a: u8) -> &'static [[u8; 3]]
+    ensures { (b c : ℕ) → listed types (a ∷ b ∷ c ∷ []) ≡ listed result.now (a ∷ b ∷ c ∷ []) }
 {
+    let types = &Sentence::TYPES;
     match a {
-        b'A' => Range { from: 0, to: 3 },
-        b'B' => Range { from: 3, to: 6 },
-        b'D' => Range { from: 6, to: 9 },
-        b'G' => Range { from: 9, to: 16 },
-        b'H' => Range { from: 16, to: 17 },
-        b'M' => Range { from: 17, to: 20 },
-        b'R' => Range { from: 20, to: 22 },
-        b'T' => Range { from: 22, to: 24 },
-        b'V' => Range { from: 24, to: 26 },
-        b'W' => Range { from: 26, to: 27 },
-        b'Z' => Range { from: 27, to: 30 },
-        _ => Range { from: 0, to: 0 },
+        b'A' => &types[0..3],
+        b'B' => &types[3..6],
+        b'D' => &types[6..9],
+        b'G' => &types[9..16],
+        b'H' => &types[16..17],
+        b'M' => &types[17..20],
+        b'R' => &types[20..22],
+        b'T' => &types[22..24],
+        b'V' => &types[24..26],
+        b'W' => &types[26..27],
+        b'Z' => &types[27..30],
+        _ => &[],
     }
 }
 
-// Whether a type is one of the six whose data are read, by its first letters: most lines are of these.
+// Whether a type is one of the six whose data are read: most lines are of these.
 fn is_read(kind: Kind) -> bool
     ensures { result ≡ true → listed types (letters kind) ≡ true }
 {
-    if kind.0 == b'G' {
-        if kind.1 == b'S' {
-            if same(kind, *b"GSV") {
-                return true;
-            }
-            return same(kind, *b"GSA");
-        }
-        if same(kind, *b"GGA") {
-            return true;
-        }
-        return same(kind, *b"GLL");
-    }
-    if same(kind, *b"RMC") {
-        return true;
-    }
-    same(kind, *b"VTG")
+    matches!(
+        kind,
+        Kind(b'G', b'S', b'V')
+            | Kind(b'G', b'S', b'A')
+            | Kind(b'G', b'G', b'A')
+            | Kind(b'G', b'L', b'L')
+            | Kind(b'R', b'M', b'C')
+            | Kind(b'V', b'T', b'G')
+    )
 }
 
 // Whether a type is one of the thirty. Those whose data are read are tried first, then those that begin with its letter.
@@ -126,16 +91,5 @@ pub fn known(kind: Kind) -> bool
     if is_read(kind) {
         return true;
     }
-    let types = Sentence::TYPES;
-    let r = beginning(kind.0);
-    let to = r.to;
-    let mut i = r.from;
-    while i < to {
-        let t = types[i];
-        if same(kind, t) {
-            return true;
-        }
-        i += 1;
-    }
-    false
+    beginning(kind.0).contains(&[kind.0, kind.1, kind.2])
 }

@@ -1,23 +1,17 @@
 -- Cells that are stored are read back, and the others stand. Assumes nothing.
 use Prim.Native.Nat.{ℕ, suc, ◌+◌, ◌*◌, ◌≤◌, ◌<◌}
 use native.Mathlib.Omega.{arith}
-use mathlib.Core.Path.{◌≡◌, refl, ap, sym, ◌∙◌, subst}
+use mathlib.Core.Path.{◌≡◌, refl, ap, sym, ◌∙◌}
 use mathlib.Core.List.{List, [], ◌∷◌, ◌++◌}
 use mathlib.Core.Bool.{Bool, cond}
 use mathlib.Core.Option.{Option, none, some}
-use lib.ListN.{length, get_or, set, length-append, length-set}
+use lib.ListN.{length, get_or, set, length-set}
 use lib.Seq.{sets, length-sets, get_or-set_same, get_or-set_other}
 use borrow.Author.Tests.{ne_eqb}
-use Rattle.text.specs.Answer.{held}
 use Rattle.text.proofs.Stores.{sets-append}
-use Rattle.gsv.specs.Gsv.{Satellite, keep}
-use Rattle.gsv.specs.Answer.{slot}
-use Rattle.gsv.specs.declared.SatInfo.{SatInfo}
-use Rattle.gsv.specs.declared.Slot.{Slot}
-use Rattle.gsv.specs.declared.Slot.TheVariants.{Empty, Seen}
+use Rattle.gsv.specs.Gsv.{Satellite}
 use Rattle.short.specs.Texts.{Upto, Readable, AllReadable}
 use Rattle.gather.specs.Words.{number_of, sat_at, sats_from, word_of, cell_words, flat}
-use Rattle.gather.specs.Code.{Stored}
 
 pub below : (vs l : List ℕ) (i j : ℕ) → j < i → get_or (sets l i vs) j 0 ≡ get_or l j 0
 below [] l i j h = refl
@@ -39,18 +33,6 @@ inside (v ∷ vs) l i (suc j) h k =
 pub flat-long : (es : List Satellite) → length (flat es) ≡ length es * 4
 flat-long [] = refl
 flat-long (s ∷ es) = omega (arith, flat-long es)
-
--- the words of some entries behind those of k others
-pub flat-two : (a b : List Satellite) (l : List ℕ) (k : ℕ) → sets (sets l (4 + k * 4) (flat a)) (4 + (k + length a) * 4) (flat b) ≡ sets l (4 + k * 4) (flat (a ++ b))
-flat-two a b l k =
-    let z : 4 + (k + length a) * 4 ≡ 4 + k * 4 + length (flat a) = omega (arith, flat-long a) in
-    ap (λ (n : ℕ). sets (sets l (4 + k * 4) (flat a)) n (flat b)) z
-    ∙ sym (sets-append (flat a) (flat b) l (4 + k * 4))
-    ∙ ap (sets l (4 + k * 4)) (flat-append a)
-  where
-    flat-append : (a : List Satellite) → flat a ++ flat b ≡ flat (a ++ b)
-    flat-append [] = refl
-    flat-append (s ∷ a) = ap (λ (ws : List ℕ). cell_words s ++ ws) (flat-append a)
 
 -- a number that a line can have is read back
 back : (o : Option ℕ) → Upto 2147483647 o → number_of (word_of o) ≡ o
@@ -108,53 +90,3 @@ cells-back (s ∷ es) l k r h =
     (same-at (sets ws (4 + suc k * 4) (flat es)) ws k (λ i q. below (flat es) ws (4 + suc k * 4) (4 + k * 4 + i) (omega arith))
     ∙ cell-back l k s r.0 (omega arith)) j
     ∷ cells-back es ws (suc k) r.1 (omega (arith, length-sets l (4 + k * 4) (cell_words s))) j)
-
--- four words stored one after the other
-pub four-stored : (l : List ℕ) (at a b c d : ℕ) → set (set (set (set l at a) (at + 1) b) (at + 2) c) (at + 3) d ≡ sets l at (a ∷ b ∷ c ∷ d ∷ [])
-four-stored l at a b c d =
-    let x : at + 1 ≡ suc at = omega arith in
-    let y : at + 2 ≡ suc (suc at) = omega arith in
-    let z : at + 3 ≡ suc (suc (suc at)) = omega arith in
-    λ j. set (set (set (set l at a) (x j) b) (y j) c) (z j) d
-
--- entries stored, and then more
-pub stored-long : {l m : List ℕ} {k r : ℕ} {es : List Satellite} → Stored l m k es r → length m ≡ length l
-stored-long {l} {m} {k} {r} {es} s = ap length s.words ∙ length-sets l (4 + k * 4) (flat es)
-
-pub stored-one : {l m : List ℕ} {k r : ℕ} (o : Option Satellite) → Stored l m k (keep o []) r → r ≤ k + 1
-stored-one none s = omega (arith, s.count)
-stored-one (some e) s = omega (arith, s.count)
-
-stored-two : {l m n : List ℕ} {k r q : ℕ} {a b : List Satellite} → Stored l m k a r → Stored m n r b q → Stored l n k (a ++ b) q
-stored-two {l} {m} {n} {k} {r} {q} {a} {b} s t =
-    record {
-      words = t.words ∙ (λ j. sets (s.words j) (4 + s.count j * 4) (flat b)) ∙ flat-two a b l k;
-      count = omega (arith, t.count, s.count, length-append a b);
-    }
-
-keeps : (o : Option Satellite) (es : List Satellite) → keep o [] ++ es ≡ keep o es
-keeps none es = refl
-keeps (some s) es = refl
-
-kept : {l n : List ℕ} {k q : ℕ} (o : Option Satellite) (es : List Satellite) → Stored l n k (keep o [] ++ es) q → Stored l n k (keep o es) q
-kept {l} {n} {k} {q} o es s = subst (λ (x : List Satellite). Stored l n k x q) (keeps o es) s
-
-pub stored-four : {l₀ l₁ l₂ l₃ l₄ : List ℕ} {k₀ k₁ k₂ k₃ k₄ : ℕ} (a b c d : Option Satellite) → Stored l₀ l₁ k₀ (keep a []) k₁
-    → Stored l₁ l₂ k₁ (keep b []) k₂ → Stored l₂ l₃ k₂ (keep c []) k₃ → Stored l₃ l₄ k₃ (keep d []) k₄
-    → Stored l₀ l₄ k₀ (keep a (keep b (keep c (keep d [])))) k₄
-stored-four a b c d p q r s =
-    kept a (keep b (keep c (keep d []))) (stored-two p (kept b (keep c (keep d [])) (stored-two q (kept c (keep d []) (stored-two r s)))))
-
--- one entry
-pub stored-none : (l : List ℕ) (k : ℕ) (s : Slot) → s ≡ Empty → Stored l l k (keep (slot s) []) k
-stored-none l k s e = rw e (record { words = refl; count = omega arith })
-
-pub stored-some : (l : List ℕ) (k : ℕ) (s : Slot) (t : SatInfo) (x y z : ℕ) → s ≡ Seen t → x ≡ word_of (held t.elevation)
-    → y ≡ word_of (held t.azimuth) → z ≡ word_of (held t.signal)
-    → Stored l (set (set (set (set l (4 + k * 4) t.id) (4 + k * 4 + 1) x) (4 + k * 4 + 2) y) (4 + k * 4 + 3) z) k (keep (slot s) []) (k + 1)
-stored-some l k s t x y z e ex ey ez =
-    rw e
-    (record {
-      words = four-stored l (4 + k * 4) t.id x y z ∙ (λ j. sets l (4 + k * 4) (t.id ∷ ex j ∷ ey j ∷ ez j ∷ []));
-      count = refl;
-    })

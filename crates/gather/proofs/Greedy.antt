@@ -1,5 +1,6 @@
 -- Greedy packing of a row's cells, a cell at a time. Assumes nothing.
-use Prim.Native.Nat.{ℕ, suc, ◌+◌, ◌-◌, ◌≤◌, ◌<◌}
+use Prim.Native.Nat.{ℕ, suc, ◌+◌, ◌-◌, ◌*◌, ◌/◌, ◌^◌, ◌≤◌, ◌<◌}
+use native.Mathlib.Nat.{pow-zero, pow-suc, one-le-pow}
 use native.Mathlib.Omega.{arith}
 use native.Mathlib.Numerals.{add-one}
 use mathlib.Core.Path.{◌≡◌, refl, ap, sym, ◌∙◌}
@@ -7,29 +8,34 @@ use mathlib.Core.List.{List, [], ◌∷◌}
 use mathlib.Core.Bool.{Bool, true, false, ◌&&◌, cond}
 use lib.Dec.{leb, ltb}
 use lib.ListN.{length}
-use borrow.Author.Tests.{lt-ltb, le-ltb, le-leb, lt-leb, leb-true, eq-eqb, ne_eqb}
+use borrow.Author.Tests.{leb-true}
+use Rattle.std.specs.Prelude.{Option, Some, None, IfNone, IfSome, MatchOption}
 use Rattle.short.specs.Digits.{digits_of}
-use Rattle.short.proofs.Digits.{digit-one}
+use Rattle.short.proofs.Digits.{digit-one, count-tenth}
 use Rattle.short.proofs.Texts.{entry-length}
 use Rattle.pack.specs.Cut.{more, piece_count}
 use Rattle.gsv.specs.Gsv.{Satellite}
 use Rattle.rows.specs.Leave.{entry_size}
-use Rattle.gather.specs.Words.{number_of, sat_at, sats_from}
+use Rattle.gather.specs.Words.{sat_at, sats_from}
 use Rattle.gather.specs.Code.{Digits, OptDigits, Sized, put_on}
 use Rattle.gather.specs.declared.lent.Pile.{Pile}
 
-pub one : (n : ℕ) → n < 10 → length (digits_of n) ≡ 1
+one : (n : ℕ) → n < 10 → length (digits_of n) ≡ 1
 one n h = ap length (digit-one n h)
 
-pub put-here : (p : Pile) (w room : ℕ) → p.count < 4 → p.used + w ≤ room
-    → record { lines = p.lines; count = p.count + 1; used = p.used + w } ≡ put_on p w room
-put-here p w room h k = simp (lt-ltb p.count 4 h, le-leb (p.used + w) room k)
+-- a number from a power of ten up, and below the next, has a digit more than the power has zeros
+power-digits : (k n : ℕ) → 10 ^ k ≤ n → n < 10 * 10 ^ k → length (digits_of n) ≡ k + 1
+power-digits ℕ.zero n a b = one n (omega (arith, pow-zero 10))
+power-digits (suc k) n a b =
+    let z = pow-suc 10 k in
+    let y = one-le-pow k 10 (omega arith) in
+    omega (arith, count-tenth n (omega arith), power-digits k (n / 10) (omega arith) (omega arith))
 
-pub put-full : (p : Pile) (w room : ℕ) → 4 ≤ p.count → record { lines = p.lines + 1; count = 1; used = w } ≡ put_on p w room
-put-full p w room h = simp (le-ltb p.count 4 h)
-
-pub put-over : (p : Pile) (w room : ℕ) → p.count < 4 → room < p.used + w → record { lines = p.lines + 1; count = 1; used = w } ≡ put_on p w room
-put-over p w room h k = simp (lt-ltb p.count 4 h, lt-leb (p.used + w) room k)
+-- so the power's count decides
+pub counted : (x r : ℕ) (o : Option ℕ) (P : ℕ → Type 0) → ((k : ℕ) → P k → r ≡ k + 1) → IfNone o (x ≡ 0) → IfSome o (λ k. 10 ^ k ≤ x)
+    → IfSome o (λ k. x < 10 * 10 ^ k) → IfSome o (λ k. k < 10) → MatchOption o (r ≡ 1) P → Digits x r
+counted x r (Some k) P f z a b h e = record { count = f k e ∙ sym (power-digits k x a b); few = omega (arith, f k e) }
+counted x r None P f z a b h e = record { count = e ∙ sym (one x (omega arith)); few = omega arith }
 
 -- the pile after an entry, and those that are left
 put-more : (p : Pile) (s : Satellite) (ss : List Satellite) (room : ℕ)
@@ -64,12 +70,6 @@ small-put i p w room h k l = by (ltb p.count 4) (leb (p.used + w) room) refl
         record { lines = omega (arith, h.lines); used = omega arith }
     by true false e = record { lines = omega (arith, h.lines); used = omega arith }
     by false b e = record { lines = omega (arith, h.lines); used = omega arith }
-
-pub no-digits : (x : ℕ) → x ≡ 4294967295 → OptDigits (number_of x) 0
-no-digits x e = rw (eq-eqb x 4294967295 e) (record { count = refl; few = omega arith })
-
-pub its-digits : (x r : ℕ) → (x ≡ 4294967295 → ⊥) → Digits x r → OptDigits (number_of x) r
-its-digits x r e d = rw (ne_eqb x 4294967295 e) (record { count = d.count; few = d.few })
 
 pub sized : (s : Satellite) (a b c d : ℕ) → Digits s.id a → OptDigits s.elevation b → OptDigits s.azimuth c
     → OptDigits s.signal d → Sized s (a + b + c + d + 4)

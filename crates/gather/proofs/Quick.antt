@@ -18,6 +18,8 @@ use Rattle.rows.specs.Leave.{upto, readable, all_readable, entry_size, space, le
 use Rattle.rows.proofs.Row.{few-entries}
 use Rattle.gather.specs.Words.{sats_from, open_of, stands}
 use Rattle.gather.specs.Code.{sat_within, all_within, short_max}
+use Rattle.gather.specs.Heads.{run_stands}
+use Rattle.gather.specs.declared.run.Run.{Run}
 
 -- at the largest numbers that a line can have
 pub readable-is : (es : List Satellite) → all_within 4294967295 2147483647 es ≡ all_readable es
@@ -138,6 +140,26 @@ pub record Head (ws : List ℕ) : Type 0 where
   pub open' : get_or ws 1 0 ≤ get_or ws 0 0
   pub high : get_or ws 0 0 ≤ 9
   pub view : get_or ws 2 0 ≤ 65535
+
+abbrev run : List ℕ → Run
+run ws = record { n = get_or ws 0 0; next = get_or ws 1 0; view = get_or ws 2 0 }
+
+pub may-stand : (ws : List ℕ) → length ws ≡ 148 → run_stands (run ws) ≡ true → get_or ws 2 0 ≤ 65535 → Head ws
+may-stand ws a r e =
+    let (b, r₁) = (and-eq-true_iff (leb 2 (get_or ws 1 0)) _).0 r in
+    let (c, d) = (and-eq-true_iff (leb (get_or ws 1 0) (get_or ws 0 0)) _).0 r₁ in
+    record { long = a; begun = leb-true _ _ b; open' = leb-true _ _ c; high = leb-true _ _ d; view = e }
+
+-- where its run does not stand, the row does not
+pub no-run : (ws : List ℕ) → run_stands (run ws) ≡ false → false ≡ stands ws
+no-run ws = by (eqb (length ws) 148) (leb 2 (get_or ws 1 0)) (leb (get_or ws 1 0) (get_or ws 0 0)) (leb (get_or ws 0 0) 9) _
+  where
+    by : (a b c d e : Bool) → b && (c && d) ≡ false → false ≡ a && (b && (c && (d && e)))
+    by false b c d e h = refl
+    by true false c d e h = refl
+    by true true false d e h = refl
+    by true true true false e h = refl
+    by true true true true e h = let z : ◌≡◌ {A = ℕ} 0 1 = cc in absurd (omega arith)
 
 abbrev sats : List ℕ → List Satellite
 sats ws = sats_from 0 (get_or ws 3 0) ws

@@ -3,14 +3,15 @@ use Prim.Native.Nat.{ℕ, ◌+◌, ◌*◌, ◌≤◌}
 use native.Mathlib.Omega.{arith}
 use mathlib.Core.Path.{◌≡◌, refl, ap, sym, ◌∙◌}
 use mathlib.Core.List.{List, [], ◌++◌}
-use mathlib.Core.Bool.{Bool, true, false, ◌&&◌, false≢true, true≢false, cond, and-eq-true_iff}
+use mathlib.Core.Bool.{Bool, true, false, ◌&&◌, cond, and-eq-true_iff}
 use mathlib.Core.Option.{Option, none, some, none-ne-some}
-use borrow.Author.Tests.{eq-eqb, ne_eqb, le-leb, eqb-true}
+use Rattle.std.specs.Prelude.{Option as Maybe, Some}
+use borrow.Author.Tests.{eq-eqb, ne_eqb, eqb-true}
 use lib.Dec.{eqb, leb}
 use lib.ListN.{length, get_or, set}
 use lib.Seq.{sets}
 use Rattle.groups.specs.Log.{Gsv}
-use Rattle.groups.specs.Step.{Open, Out, onward, sofar, taken, step}
+use Rattle.groups.specs.Step.{Open, Out, onward, sofar, taken}
 use Rattle.gsv.specs.Gsv.{Satellite, Head}
 use Rattle.pack.proofs.Few.{four-each}
 use Rattle.rows.specs.Leave.{entry_size, space}
@@ -19,9 +20,8 @@ use Rattle.gather.specs.Words.{sats_from, open_of, stands, meant, flat}
 use Rattle.gather.specs.Put.{next_of, written, row_after, told, outcome_of, Put}
 use Rattle.gather.specs.Heads.{run_stands}
 use Rattle.gather.specs.Code.{headed, on_row, before_of, Stored, runs_on}
-use Rattle.gather.specs.declared.line.Before.{Before}
 use Rattle.gather.specs.declared.run.Run.{Run}
-use Rattle.gather.specs.declared.line.Outcome.TheVariants.{NoRow, Nothing, Waiting, Complete}
+use Rattle.gather.specs.declared.line.Outcome.TheVariants.{NoRow, Waiting}
 use Rattle.gather.proofs.Quick.{sats-long}
 
 -- another line
@@ -59,9 +59,9 @@ module _ (ws : List ℕ) (n k v : ℕ) where
         ∙ ap (λ (x : Bool). cond x (some (open_of ws).sats) none) e
 
     -- the code's count, where the line goes on with the row's run
-    gone-on : on_row ws n k v ≡ true → ◌≡◌ {A = Before} (record { runs = true; count = get_or ws 3 0 }) (before_of (sofar (meant ws) (headed n k v)))
+    gone-on : on_row ws n k v ≡ true → ◌≡◌ {A = Maybe ℕ} (Some (get_or ws 3 0)) (before_of (sofar (meant ws) (headed n k v)))
     gone-on e =
-        ap (λ (c : ℕ). record { runs = true; count = c }) (sym (sats-long 0 (get_or ws 3 0) ws)) ∙ ap before_of (sym (answers true e))
+        ap Some (sym (sats-long 0 (get_or ws 3 0) ws)) ∙ ap before_of (sym (answers true e))
 
   -- by the head of the row's run, which is asked first: a row that stands has one that lines can leave
   abbrev run : Run
@@ -69,11 +69,6 @@ module _ (ws : List ℕ) (n k v : ℕ) where
 
   abbrev head : Head
   head = record { count = n; index = k; view = v }
-
-  stands-run : stands ws ≡ true → run_stands run ≡ true
-  stands-run e =
-      let p = (passes (open_of ws)).0 ((and-eq-true_iff (eqb (length ws) 148) _).0 e).1 in
-      λ j. le-leb 2 (get_or ws 1 0) p.begun j && (le-leb (get_or ws 1 0) (get_or ws 0 0) p.open' j && le-leb (get_or ws 0 0) 9 p.high j)
 
   -- the three numbers are the run's, and the row stands
   record OnRow : Type 0 where
@@ -89,37 +84,9 @@ module _ (ws : List ℕ) (n k v : ℕ) where
       let (c, d) = (and-eq-true_iff (eqb v (get_or ws 2 0)) _).0 g in
       record { n-is = a; next-is = b; view-is = c; stood = d }
 
-  refuted : (on_row ws n k v ≡ true → ⊥) → on_row ws n k v ≡ false
-  refuted h = by (on_row ws n k v) refl
-    where
-      by : (b : Bool) → on_row ws n k v ≡ b → b ≡ false
-      by true e = absurd (h e)
-      by false e = refl
-
-  pub no-run : runs_on run head ≡ false → sofar (meant ws) (headed n k v) ≡ none
-  no-run e = by (eqb k 1) refl e
-    where
-      by : (one : Bool) → eqb k 1 ≡ one → cond one (leb 1 n && leb n 9) (run_stands run && (eqb n (get_or ws 0 0) && (eqb k (get_or ws 1 0) && eqb v (get_or ws 2 0)))) ≡ false
-          → sofar (meant ws) (headed n k v) ≡ none
-      by true z f = λ j. cond (z j) (cond (f j) (some []) none) (onward (meant ws) (headed n k v))
-      by false z f =
-          answers (λ q. true≢false (sym (eq-eqb k 1 q) ∙ z)) false
-          (refuted (λ t. let o = on-row t in
-          true≢false (sym (λ j. stands-run o.stood j && (o.n-is j && (o.next-is j && o.view-is j))) ∙ f)))
-
-  pub starts : runs_on run head ≡ true → k ≡ 1 → sofar (meant ws) (headed n k v) ≡ some []
-  starts e one =
-      let z : eqb k 1 ≡ true = eq-eqb k 1 one in
-      let f : (leb 1 n && leb n 9) ≡ true =
-      sym (λ j. cond (z j) (leb 1 n && leb n 9) (run_stands run && (eqb n (get_or ws 0 0) && (eqb k (get_or ws 1 0) && eqb v (get_or ws 2 0))))) ∙ e in
-      λ j. cond (z j) (cond (f j) (some []) none) (onward (meant ws) (headed n k v))
-
   module _ (more : k ≡ 1 → ⊥) where
-    pub no-row-run : stands ws ≡ false → sofar (meant ws) (headed n k v) ≡ none
-    no-row-run s = answers more false (refuted (λ t. true≢false (sym (on-row t).stood ∙ s)))
-
     pub goes : runs_on run head ≡ true → stands ws ≡ true
-        → ◌≡◌ {A = Before} (record { runs = true; count = get_or ws 3 0 }) (before_of (sofar (meant ws) (headed n k v)))
+        → ◌≡◌ {A = Maybe ℕ} (Some (get_or ws 3 0)) (before_of (sofar (meant ws) (headed n k v)))
     goes e s =
         let f : (run_stands run && (eqb n (get_or ws 0 0) && (eqb k (get_or ws 1 0) && eqb v (get_or ws 2 0)))) ≡ true =
         sym (λ j. cond (ne_eqb k 1 more j) (leb 1 n && leb n 9) (run_stands run && (eqb n (get_or ws 0 0) && (eqb k (get_or ws 1 0) && eqb v (get_or ws 2 0))))) ∙ e in
@@ -185,65 +152,39 @@ abbrev pub waited : Gsv Satellite → List Satellite → Out Satellite
 waited g es = record { row = some (record { n = g.n; next = g.number + 1; view = g.view; sats = es ++ g.sats }); group = none }
 
 -- what a line writes and says
-module _ (ws : List ℕ) (g : Gsv Satellite) where
-  pub no-row : (length ws ≡ 148 → ⊥) → Put ws ws g NoRow
-  no-row h =
-      let e : false ≡ eqb (length ws) 148 = sym (ne_eqb (length ws) 148 h) in
+module _ (ws : List ℕ) (g : Gsv Satellite) (long : length ws ≡ 148) where
+  pub after-is : (x : Option (List Satellite)) → sofar (meant ws) g ≡ x → row_after ws g ≡ written ws g x
+  after-is x e = λ j. cond (eq-eqb (length ws) 148 long j) (written ws g (e j)) ws
+
+  outcome-is : (x : Option (List Satellite)) → sofar (meant ws) g ≡ x → outcome_of ws g ≡ told (taken x g)
+  outcome-is x e = λ j. cond (eq-eqb (length ws) 148 long j) (told (taken (e j) g)) NoRow
+
+  pub record Begun (k : ℕ) : Type 0 where
+    pub es : List Satellite
+    pub is : sofar (meant ws) g ≡ some es
+    pub count : k ≡ length es
+    pub few : k ≤ 32
+    pub low : g.number ≤ 9
+
+  pub begun : (k : ℕ) → Some k ≡ before_of (sofar (meant ws) (headed g.n g.number g.view)) → Begun k
+  begun k e = by (sofar (meant ws) g) refl (e ∙ ap before_of (by-head (meant ws) g))
+    where
+      by : (x : Option (List Satellite)) → sofar (meant ws) g ≡ x → Some k ≡ before_of x → Begun k
+      by none q f = let z : ◌≡◌ {A = ℕ} 0 1 = cc in absurd (omega arith)
+      by (some es) q f =
+          let h = goes-on ws g.n g.number g.view es (by-head (meant ws) g ∙ q) in
+          let c : k ≡ length es = cc in
+          record { es = es; is = q; count = c; few = omega (arith, h.few); low = h.low }
+
+  -- a line that is not the last leaves the run waiting
+  pub waits : {k t q : ℕ} {m : List ℕ} (x : Begun k) → Stored ws m k g.sats t → (g.number ≡ g.n → ⊥) → q ≡ g.number + 1
+      → Put ws (set (set (set (set m 0 g.n) 1 q) 2 g.view) 3 t) g Waiting
+  waits {k} {t} {q} {m} x s more f =
+      let e : eqb g.number g.n ≡ false = ne_eqb g.number g.n more in
+      let mp : m ≡ sets ws (4 + length x.es * 4) (flat g.sats) = s.words ∙ (λ j. sets ws (4 + x.count j * 4) (flat g.sats)) in
+      let tp : t ≡ length x.es + length g.sats = s.count ∙ (λ j. x.count j + length g.sats) in
+      let qp : q ≡ next_of g = f ∙ sym (λ j. cond (e j) 0 (g.number + 1)) in
       record {
-        words = λ j. cond (e j) (written ws g (sofar (meant ws) g)) ws;
-        says = λ j. cond (e j) (told (step (meant ws) g)) NoRow;
+        words = (λ j. set (set (set (set (mp j) 0 g.n) 1 (qp j)) 2 g.view) 3 (tp j)) ∙ sym (after-is (some x.es) x.is);
+        says = sym (outcome-is (some x.es) x.is ∙ (λ j. told (cond (e j) (handed g x.es) (waited g x.es))));
       }
-
-  module _ (long : length ws ≡ 148) where
-    pub after-is : (x : Option (List Satellite)) → sofar (meant ws) g ≡ x → row_after ws g ≡ written ws g x
-    after-is x e = λ j. cond (eq-eqb (length ws) 148 long j) (written ws g (e j)) ws
-
-    outcome-is : (x : Option (List Satellite)) → sofar (meant ws) g ≡ x → outcome_of ws g ≡ told (taken x g)
-    outcome-is x e = λ j. cond (eq-eqb (length ws) 148 long j) (told (taken (e j) g)) NoRow
-
-    pub stops : (b : Before) → b ≡ before_of (sofar (meant ws) g) → b.runs ≡ false → Put ws (set ws 1 0) g Nothing
-    stops b e f = by (sofar (meant ws) g) refl e
-      where
-        by : (x : Option (List Satellite)) → sofar (meant ws) g ≡ x → b ≡ before_of x → Put ws (set ws 1 0) g Nothing
-        by none q p = record { words = sym (after-is none q); says = sym (outcome-is none q) }
-        by (some es) q p = absurd (false≢true (sym f ∙ ap (λ (b : Before). b.runs) p))
-
-    pub record Begun (b : Before) : Type 0 where
-      pub es : List Satellite
-      pub is : sofar (meant ws) g ≡ some es
-      pub count : b.count ≡ length es
-      pub few : b.count ≤ 32
-      pub low : g.number ≤ 9
-
-    pub runs : (b : Before) → b ≡ before_of (sofar (meant ws) g) → b.runs ≡ true → Begun b
-    runs b e t = by (sofar (meant ws) g) refl e
-      where
-        by : (x : Option (List Satellite)) → sofar (meant ws) g ≡ x → b ≡ before_of x → Begun b
-        by none q f = absurd (false≢true (sym (ap (λ (b : Before). b.runs) f) ∙ t))
-        by (some es) q f =
-            let h = goes-on ws g.n g.number g.view es (by-head (meant ws) g ∙ q) in
-            let c : b.count ≡ length es = ap (λ (b : Before). b.count) f in
-            record { es = es; is = q; count = c; few = omega (arith, h.few); low = h.low }
-
-    module _ (b : Before) (x : Begun b) (m : List ℕ) (t : ℕ) (s : Stored ws m b.count g.sats t) where
-      words-are : (k : ℕ) → k ≡ next_of g → set (set (set (set m 0 g.n) 1 k) 2 g.view) 3 t ≡ row_after ws g
-      words-are k e =
-          let mp : m ≡ sets ws (4 + length x.es * 4) (flat g.sats) = s.words ∙ (λ j. sets ws (4 + x.count j * 4) (flat g.sats)) in
-          let tp : t ≡ length x.es + length g.sats = s.count ∙ (λ j. x.count j + length g.sats) in
-          (λ j. set (set (set (set (mp j) 0 g.n) 1 (e j)) 2 g.view) 3 (tp j)) ∙ sym (after-is (some x.es) x.is)
-
-      pub completes : g.number ≡ g.n → Put ws (set (set (set (set m 0 g.n) 1 0) 2 g.view) 3 t) g Complete
-      completes last =
-          let e : eqb g.number g.n ≡ true = eq-eqb g.number g.n last in
-          record {
-            words = words-are 0 (sym (λ j. cond (e j) 0 (g.number + 1)));
-            says = sym (outcome-is (some x.es) x.is ∙ (λ j. told (cond (e j) (handed g x.es) (waited g x.es))));
-          }
-
-      pub waits : (g.number ≡ g.n → ⊥) → Put ws (set (set (set (set m 0 g.n) 1 (g.number + 1)) 2 g.view) 3 t) g Waiting
-      waits more =
-          let e : eqb g.number g.n ≡ false = ne_eqb g.number g.n more in
-          record {
-            words = words-are (g.number + 1) (sym (λ j. cond (e j) 0 (g.number + 1)));
-            says = sym (outcome-is (some x.es) x.is ∙ (λ j. told (cond (e j) (handed g x.es) (waited g x.es))));
-          }

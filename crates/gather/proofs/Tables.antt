@@ -52,6 +52,7 @@ after-long ws g = by (eqb (length ws) 148) (sofar (meant ws) g)
     by false x = refl
 
 -- the code's part of the table
+-- the code's part of the table: one of another length is left as it is
 pub no-table : (t : List ℕ) (g : Gsv Satellite) → (length t ≡ table_words → ⊥) → Gathers t t g NoRow
 no-table t g h =
     let e : false ≡ eqb (length t) table_words = sym (ne_eqb (length t) table_words h) in

@@ -1,6 +1,6 @@
 -- For the code, not for a reader of the scope: how the test of a lent row counts, and what a line goes on with and stores.
-use Rattle.std.specs.Prelude.{ℕ, ◌+◌, ◌≤◌, ◌≡◌, List, [], ◌∷◌, Bool, true, false, ◌&&◌, cond, eqb, leb, ltb, length, get_or}
-use Rattle.std.proofs.Math.Option.{Option, none, some}
+use Rattle.std.specs.Prelude.{ℕ, ◌+◌, ◌≤◌, ◌≡◌, List, [], ◌∷◌, Bool, true, ◌&&◌, cond, eqb, leb, ltb, length, get_or, Option, Some, None}
+use Rattle.std.proofs.Math.Option.{Option as Maybe, none, some}
 use Rattle.std.specs.Int.Bits.{bit_or}
 use Rattle.std.proofs.lemmas.List.Edits.{sets}
 use Rattle.groups.specs.Log.{line_max, Gsv}
@@ -12,14 +12,13 @@ use Rattle.rows.specs.Leave.{upto, entry_size}
 use Rattle.gather.specs.Words.{cell_count, cell_at, number_of, flat, stands}
 use Rattle.gather.specs.Heads.{run_stands}
 use Rattle.gather.specs.declared.lent.Pile.{Pile}
-use Rattle.gather.specs.declared.line.Before.{Before}
 use Rattle.gather.specs.declared.run.Run.{Run}
 
 pub record Digits (x r : ℕ) : Type 0 where
   pub count : r ≡ length (digits_of x)
   pub few : r ≤ 10
 
-pub record OptDigits (o : Option ℕ) (r : ℕ) : Type 0 where
+pub record OptDigits (o : Maybe ℕ) (r : ℕ) : Type 0 where
   pub count : r ≡ length (opt_text o)
   pub few : r ≤ 10
 
@@ -51,7 +50,7 @@ abbrev pub short_max : ℕ
 short_max = 8190
 
 -- the bits of a satellite's numbers, each raised by one, so that what is absent counts nothing; and its own number's, which is never absent
-abbrev pub raised : Option ℕ → ℕ
+abbrev pub raised : Maybe ℕ → ℕ
 raised none = 0
 raised (some n) = n + 1
 
@@ -66,9 +65,10 @@ headed n k v = record { key = 0; n = n; number = k; view = v; sats = [] }
 abbrev pub on_row : List ℕ → ℕ → ℕ → ℕ → Bool
 on_row ws n k v = eqb n (get_or ws 0 0) && (eqb k (get_or ws 1 0) && (eqb v (get_or ws 2 0) && stands ws))
 
-abbrev pub before_of : Option (List Satellite) → Before
-before_of none = record { runs = false; count = 0 }
-before_of (some es) = record { runs = true; count = length es }
+-- how many entries stand before a line, where it starts a run or goes on with one
+abbrev pub before_of : Maybe (List Satellite) → Option ℕ
+before_of none = None
+before_of (some es) = Some (length es)
 
 -- the words of k entries and some more
 pub record Stored (ws ws' : List ℕ) (k : ℕ) (es : List Satellite) (r : ℕ) : Type 0 where

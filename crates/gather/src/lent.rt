@@ -5,6 +5,9 @@ ghost use Rattle.rows.specs.Leave.{upto, entry_size, space};
 ghost use Rattle.gather.specs.Words.{row_words, cell_count, number_of, sat_at, sats_from, stands};
 ghost use Rattle.gather.specs.Code.{sat_within, all_within, short_max, raised, sat_bits, Digits, OptDigits, Sized, put_on, Puts};
 
+use crate::run;
+use crate::run::Run;
+
 // The words of a row: its head, and a cell of four words for each entry of nine lines of four.
 pub const ROW: usize = HEAD + CELLS * CELL;
 
@@ -59,7 +62,8 @@ fn within(x: u32, max: u32) -> bool
 
 // The numbers of cell i are within two limits.
 fn cell_within(row: &[u32], i: usize, ids: u32, max: u32) -> bool
-    requires { (length row.now ≡ row_words) × (i < cell_count) }
+    requires row { length row.now ≡ row_words }
+    requires cell { i < cell_count }
     ensures { result ≡ sat_within ids max (sat_at row.now i) }
 {
     let at = HEAD + i * CELL;
@@ -76,15 +80,14 @@ fn cell_within(row: &[u32], i: usize, ids: u32, max: u32) -> bool
 }
 
 fn all_within(row: &[u32], count: usize, ids: u32, max: u32) -> bool
-    requires { (length row.now ≡ row_words) × (count ≤ cell_count) }
+    requires row { length row.now ≡ row_words }
+    requires cells { count ≤ cell_count }
     ensures { result ≡ all_within ids max (sats_from 0 count row.now) }
 {
-    let mut i = 0;
-    while i < count {
+    for i in 0..count {
         if !cell_within(row, i, ids, max) {
             return false;
         }
-        i += 1;
     }
     true
 }
@@ -102,7 +105,8 @@ fn raised(x: u32) -> u32
 // The bits of the numbers of cell i, each raised, and those of its satellite, which is never absent. The satellite is raised too so that
 // the four words are alike: they are then taken by one instruction.
 fn cell_bits(row: &[u32], i: usize) -> u32
-    requires { (length row.now ≡ row_words) × (i < cell_count) }
+    requires row { length row.now ≡ row_words }
+    requires cell { i < cell_count }
     ensures { result ≡ sat_bits (sat_at row.now i) }
 {
     let at = HEAD + i * CELL;
@@ -115,11 +119,13 @@ fn cell_bits(row: &[u32], i: usize) -> u32
 
 // Whether the first count of the cells have short entries: a line's cells at once, and then one by one.
 fn all_short(row: &[u32], count: usize) -> bool
-    requires { (length row.now ≡ row_words) × (count ≤ cell_count) }
+    requires row { length row.now ≡ row_words }
+    requires cells { count ≤ cell_count }
     ensures { result ≡ all_within short_max short_max (sats_from 0 count row.now) }
 {
-    let mut i = 0;
-    while i + ENTRIES <= count {
+    let lines = count / ENTRIES;
+    for line in 0..lines {
+        let i = line * ENTRIES;
         let bits = cell_bits(row, i)
             | cell_bits(row, i + 1)
             | cell_bits(row, i + 2)
@@ -127,28 +133,20 @@ fn all_short(row: &[u32], count: usize) -> bool
         if SHORT < bits {
             return false;
         }
-        i += ENTRIES;
     }
-    while i < count {
+    for i in lines * ENTRIES..count {
         if SHORT < cell_bits(row, i) {
             return false;
         }
-        i += 1;
     }
     true
 }
 
-// How many digits the shortest text of a number has.
+// How many digits the shortest text of a number has. 0 has no logarithm, and one digit.
 fn digits(x: u32) -> usize
     ensures { Digits x result }
 {
-    let mut n = x;
-    let mut k: usize = 1;
-    while 10 <= n {
-        n = n / 10;
-        k += 1;
-    }
-    k
+    x.checked_ilog10().map_or(1, |power| power as usize + 1)
 }
 
 fn opt_digits(x: u32) -> usize
@@ -162,7 +160,8 @@ fn opt_digits(x: u32) -> usize
 
 // The bytes of the entry in cell i, with one for a comma.
 fn size_at(row: &[u32], i: usize) -> usize
-    requires { (length row.now ≡ row_words) × (i < cell_count) }
+    requires row { length row.now ≡ row_words }
+    requires cell { i < cell_count }
     ensures { Sized (sat_at row.now i) result }
 {
     let at = HEAD + i * CELL;
@@ -202,15 +201,16 @@ fn pile_on(p: Pile, w: usize, room: usize) -> Pile
         };
     }
     Pile {
-        lines: p.lines,
         count: p.count + 1,
-        used: used,
+        used,
+        ..p
     }
 }
 
 // How many lines the first count of the cells take.
 fn pieces(row: &[u32], view: u32, count: usize) -> usize
-    requires { (length row.now ≡ row_words) × (count ≤ cell_count) }
+    requires row { length row.now ≡ row_words }
+    requires cells { count ≤ cell_count }
     ensures { result ≡ piece_count entry_size (space view) (sats_from 0 count row.now) }
 {
     let d = digits(view);
@@ -220,48 +220,41 @@ fn pieces(row: &[u32], view: u32, count: usize) -> usize
         count: ENTRIES,
         used: 0,
     };
-    let mut i = 0;
-    while i < count {
-        let w = size_at(row, i);
-        p = pile_on(p, w, room);
-        i += 1;
+    for i in 0..count {
+        p = pile_on(p, size_at(row, i), room);
     }
     p.lines
 }
 
 // Lines of at most 102 bytes can leave this row.
 pub fn row_stands(row: &[u32]) -> bool
-    ensures { (result ≡ stands row.now) × (row.now ≡ row.now) }
+    ensures { result ≡ stands row.now }
 {
     if row.len() != ROW {
         return false;
     }
-    let next = row[NEXT];
-    if next < 2 {
+    let run = Run {
+        n: row[N],
+        next: row[NEXT],
+        view: row[VIEW],
+    };
+    if !run::stands(run) {
         return false;
     }
-    let n = row[N];
-    if n < next {
-        return false;
-    }
-    if LINES < n {
-        return false;
-    }
-    let view = row[VIEW];
-    if gsv::COUNT_MAX < view {
+    if gsv::COUNT_MAX < run.view {
         return false;
     }
     let count = row[COUNT] as usize;
     if CELLS < count {
         return false;
     }
-    let came = next as usize - 1;
+    let came = run.next as usize - 1;
     if all_short(row, count) {
         return count <= ENTRIES * came;
     }
     if !all_within(row, count, gsv::ID_MAX, gsv::PLACE_MAX) {
         return false;
     }
-    let k = pieces(row, view, count);
+    let k = pieces(row, run.view, count);
     k <= came
 }

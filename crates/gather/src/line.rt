@@ -3,7 +3,7 @@ ghost use Rattle.std.specs.Prelude.{◌≡◌, [], ◌+◌, ◌≤◌, ◌<◌, 
 ghost use Rattle.text.specs.Answer.{held};
 ghost use Rattle.groups.specs.Step.{sofar};
 ghost use Rattle.gsv.specs.Gsv.{present, keep};
-ghost use Rattle.gsv.specs.Answer.{slot, gsv_data, gsv_sentence};
+ghost use Rattle.gsv.specs.Answer.{slot as slot_of, gsv_data, gsv_sentence};
 ghost use Rattle.rows.specs.Line.{line_of};
 ghost use Rattle.gather.specs.Words.{row_words, cell_count, word_of, meant};
 ghost use Rattle.gather.specs.Put.{Put};
@@ -11,102 +11,68 @@ ghost use Rattle.gather.specs.Code.{headed, before_of, Stored};
 
 use crate::run::Run;
 use crate::{lent, run};
-use gsv::{GsvData, GsvHead, GsvRecord, Slot};
-use text::Held;
+use gsv::{GsvData, GsvHead, GsvRecord, SatInfo};
 
-// How many entries stand before a line that starts a run or goes on with one; `runs` is false where it does neither.
-#[derive(Clone, Copy)]
-pub struct Before {
-    pub runs: bool,
-    pub count: usize,
-}
-
-fn so_far(row: &[u32], n: u32, number: u32, view: u32) -> Before
+// How many entries stand before a line that starts a run or goes on with one.
+fn so_far(row: &[u32], head: GsvHead) -> Option<usize>
     requires { length row.now ≡ row_words }
-    ensures { result ≡ before_of (sofar (meant row.now) (headed n number view)) }
+    ensures { result ≡ before_of (sofar (meant row.now) (headed head.count head.index head.view)) }
 {
     let run = Run {
         n: row[lent::N],
         next: row[lent::NEXT],
         view: row[lent::VIEW],
     };
-    let head = GsvHead {
-        count: n,
-        index: number,
-        view: view,
-    };
     if !run::runs(run, head) {
-        return Before {
-            runs: false,
-            count: 0,
-        };
+        return None;
     }
-    if number == 1 {
-        return Before {
-            runs: true,
-            count: 0,
-        };
+    if head.index == 1 {
+        return Some(0);
     }
     if !lent::row_stands(row) {
-        return Before {
-            runs: false,
-            count: 0,
-        };
+        return None;
     }
-    let count = row[lent::COUNT];
-    Before {
-        runs: true,
-        count: count as usize,
-    }
+    Some(row[lent::COUNT] as usize)
 }
 
-fn word(m: Held) -> u32
-    ensures { result ≡ word_of (held m) }
+// The word of a number that may be absent.
+fn word(number: Option<u32>) -> u32
+    ensures { result ≡ word_of (held number) }
 {
-    match m {
-        Held::Absent => lent::ABSENT,
-        Held::Known(x) => x,
-    }
+    number.unwrap_or(lent::ABSENT)
 }
 
 // An entry that is there goes into cell k; the count of cells after it.
-fn put_slot(row: &mut [u32], k: usize, s: Slot) -> usize
-    requires { (length row.old ≡ row_words) × (k < cell_count) }
-    ensures { Stored row.old row.new k (keep (slot s) []) result }
+fn put_slot(row: &mut [u32], k: usize, slot: Option<SatInfo>) -> usize
+    requires row { length row.old ≡ row_words }
+    requires cell { k < cell_count }
+    ensures { Stored row.old row.new k (keep (slot_of slot) []) result }
 {
-    match s {
-        Slot::Empty => k,
-        Slot::Seen(t) => {
-            let at = lent::HEAD + k * lent::CELL;
-            let e = t.elevation;
-            let a = t.azimuth;
-            let g = t.signal;
-            row[at] = t.id;
-            row[at + lent::ELEVATION] = word(e);
-            row[at + lent::AZIMUTH] = word(a);
-            row[at + lent::SIGNAL] = word(g);
-            k + 1
-        }
-    }
+    let Some(satellite) = slot else {
+        return k;
+    };
+    let at = lent::HEAD + k * lent::CELL;
+    row[at] = satellite.id;
+    row[at + lent::ELEVATION] = word(satellite.elevation);
+    row[at + lent::AZIMUTH] = word(satellite.azimuth);
+    row[at + lent::SIGNAL] = word(satellite.signal);
+    k + 1
 }
 
 // The entries of a line go into the cells from k on.
 fn put_slots(row: &mut [u32], k: usize, d: GsvData) -> usize
-    requires { (length row.old ≡ row_words) × (k + 4 ≤ cell_count) }
+    requires row { length row.old ≡ row_words }
+    requires cells { k + 4 ≤ cell_count }
     ensures { Stored row.old row.new k (present (gsv_data d)) result }
 {
-    let a = d.first;
-    let k1 = put_slot(&mut *row, k, a);
-    let b = d.second;
-    let k2 = put_slot(&mut *row, k1, b);
-    let c = d.third;
-    let k3 = put_slot(&mut *row, k2, c);
-    let e = d.fourth;
-    put_slot(&mut *row, k3, e)
+    let k = put_slot(&mut *row, k, d.first);
+    let k = put_slot(&mut *row, k, d.second);
+    let k = put_slot(&mut *row, k, d.third);
+    put_slot(&mut *row, k, d.fourth)
 }
 
 // What a line did to its row. Complete: until the next line of its key the row's n, in-view count, count and cells are the group.
-#[derive(Clone, Copy)]
+#[derive(Clone, Copy, Debug, PartialEq, Eq)]
 pub enum Outcome {
     NoRow,
     Nothing,
@@ -122,25 +88,24 @@ pub fn put(row: &mut [u32], line: GsvRecord) -> Outcome
         return Outcome::NoRow;
     }
     let d = line.data;
-    let n = d.count;
-    let number = d.index;
-    let view = d.view;
-    let before = so_far(&*row, n, number, view);
-    if !before.runs {
+    let head = GsvHead {
+        count: d.count,
+        index: d.index,
+        view: d.view,
+    };
+    let Some(before) = so_far(&*row, head) else {
         row[lent::NEXT] = 0;
         return Outcome::Nothing;
+    };
+    let count = put_slots(&mut *row, before, d);
+    let complete = d.index == d.count;
+    row[lent::N] = d.count;
+    row[lent::NEXT] = if complete { 0 } else { d.index + 1 };
+    row[lent::VIEW] = d.view;
+    row[lent::COUNT] = count as u32;
+    if complete {
+        Outcome::Complete
+    } else {
+        Outcome::Waiting
     }
-    let count = before.count;
-    let total = put_slots(&mut *row, count, d);
-    row[lent::N] = n;
-    if number == n {
-        row[lent::NEXT] = 0;
-        row[lent::VIEW] = view;
-        row[lent::COUNT] = total as u32;
-        return Outcome::Complete;
-    }
-    row[lent::NEXT] = number + 1;
-    row[lent::VIEW] = view;
-    row[lent::COUNT] = total as u32;
-    Outcome::Waiting
 }

@@ -10,7 +10,7 @@ use crate::{lent, table};
 use gsv::{GsvHead, GsvTalker};
 
 // n, the number waited for, 0 where no run stands, and the in-view count.
-#[derive(Clone, Copy)]
+#[derive(Clone, Copy, Debug, PartialEq, Eq)]
 pub struct Run {
     pub n: u32,
     pub next: u32,
@@ -18,14 +18,14 @@ pub struct Run {
 }
 
 // A run after a line, and what the line did.
-#[derive(Clone, Copy)]
+#[derive(Clone, Copy, Debug, PartialEq, Eq)]
 pub struct RunAfter {
     pub run: Run,
     pub handed: Outcome,
 }
 
 // Whether a line can leave this run.
-fn stands(run: Run) -> bool
+pub(crate) fn stands(run: Run) -> bool
     ensures { result ≡ run_stands run }
 {
     if run.next < 2 {
@@ -98,7 +98,8 @@ pub const WORDS: usize = table::ROWS * RUN;
 
 // The run of a row.
 fn run_at(heads: &[u32], row: usize) -> Run
-    requires { (length heads.now ≡ head_words) × (row < row_count) }
+    requires heads { length heads.now ≡ head_words }
+    requires row { row < row_count }
     ensures { result ≡ run_at heads.now row }
 {
     let at = row * RUN;
@@ -110,7 +111,8 @@ fn run_at(heads: &[u32], row: usize) -> Run
 }
 
 fn set_run(heads: &mut [u32], row: usize, run: Run)
-    requires { (length heads.old ≡ head_words) × (row < row_count) }
+    requires heads { length heads.old ≡ head_words }
+    requires row { row < row_count }
     ensures { heads.new ≡ set_run heads.old row run }
 {
     let at = row * RUN;

@@ -17,7 +17,7 @@ pub const ROWS: usize = 6;
 pub const WORDS: usize = ROWS * lent::ROW;
 
 // What a run, and so a group, is gathered from.
-#[derive(Clone, Copy)]
+#[derive(Clone, Copy, Debug, PartialEq, Eq)]
 pub struct Source {
     pub system: GnssType,
 }
@@ -27,7 +27,7 @@ pub fn source_of(t: GsvTalker) -> Source
     ensures { source result ≡ source_from (talker t) }
 {
     let system = gsv::gnss_type(t);
-    Source { system: system }
+    Source { system }
 }
 
 // The row of a source.

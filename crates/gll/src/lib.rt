@@ -3,77 +3,47 @@
 #![tactic(auto)]
 
 ghost use Rattle.std.specs.Prelude.{◌≡◌};
-ghost use Rattle.text.specs.Placed.{Reads};
 ghost use Rattle.text.specs.Value.{value};
+ghost use Rattle.text.specs.Answer.{Finds, seen, valued};
+ghost use Rattle.fields.specs.Answer.{letter_held};
 ghost use Rattle.gll.specs.Gll.{mode, gll};
-ghost use Rattle.gll.specs.Answer.{mode_at, gll_read};
+ghost use Rattle.gll.specs.Answer.{gll_data};
 
-use fields::{LetterHeld, PositionAt, PositionHeld, TimeAt, TimeHeld};
-use text::Letter;
-
-// A mode that may be absent and the next place, or no match.
-#[derive(Clone, Copy)]
-pub enum ModeAt {
-    No,
-    Is(LetterHeld, usize),
-}
+use fields::{Both, TimeOfDay};
+use text::{Fault, Parsed};
 
 // Nothing where the text ends, else a mode's letter.
-fn mode(s: &[u8], at: usize) -> ModeAt
-    ensures { Reads s.now at mode (mode_at result) × (s.now ≡ s.now) }
+fn mode(s: &[u8], at: usize) -> Parsed<Option<u8>>
+    ensures { Finds s.now at mode (seen letter_held) result }
 {
     if s.len() <= at {
-        return ModeAt::Is(LetterHeld::Absent, at);
+        return Ok((None, at));
     }
-    let Letter::Is(b, at) = text::one_among(s, at, b"ACDEFMNPRSU") else {
-        return ModeAt::No;
-    };
-    ModeAt::Is(LetterHeld::Is(b), at)
+    let (letter, at) = text::one_among(s, at, b"ACDEFMNPRSU")?;
+    Ok((Some(letter), at))
 }
 
 // The data of a GLL sentence.
 #[derive(Clone, Copy)]
 pub struct GllData {
-    pub position: PositionHeld,
-    pub time: TimeHeld,
+    pub position: Option<Both>,
+    pub time: Option<TimeOfDay>,
     pub status: u8,
-    pub mode: LetterHeld,
-}
-
-// The data, or a refusal.
-#[derive(Clone, Copy)]
-pub enum GllRead {
-    Syntax,
-    Is(GllData),
-    Number,
-    BadTime,
+    pub mode: Option<u8>,
 }
 
 // The whole data of a GLL sentence.
-pub fn do_parse_gll(s: &[u8]) -> GllRead
-    ensures { (gll_read result ≡ value (gll s.now)) × (s.now ≡ s.now) }
+pub fn do_parse_gll(s: &[u8]) -> Result<GllData, Fault>
+    ensures { valued gll_data result ≡ value (gll s.now) }
 {
-    match fields::position_place(s, 0) {
-        PositionAt::No => GllRead::Syntax,
-        PositionAt::Is(position, at) => match fields::time_place(s, at) {
-            TimeAt::No => GllRead::Syntax,
-            TimeAt::Is(time, at) => {
-                let Letter::Is(status, at) = fields::letter_place(s, at, b"AV") else {
-                    return GllRead::Syntax;
-                };
-                let ModeAt::Is(mode, _) = mode(s, at) else {
-                    return GllRead::Syntax;
-                };
-                GllRead::Is(GllData {
-                    position: position,
-                    time: time,
-                    status: status,
-                    mode: mode,
-                })
-            }
-            TimeAt::Number => GllRead::Number,
-            TimeAt::BadTime => GllRead::BadTime,
-        },
-        PositionAt::Number => GllRead::Number,
-    }
+    let (position, at) = fields::position_place(s, 0)?;
+    let (time, at) = fields::time_place(s, at)?;
+    let (status, at) = fields::letter_place(s, at, b"AV")?;
+    let (mode, _) = mode(s, at)?;
+    Ok(GllData {
+        position,
+        time,
+        status,
+        mode,
+    })
 }

@@ -4,13 +4,14 @@ use native.Mathlib.Omega.{arith}
 use mathlib.Core.Path.{◌≡◌, refl}
 use mathlib.Core.Bool.{Bool, true, false, ◌||◌}
 use mathlib.Core.List.{List}
-use lib.ListN.{length, drop, get_or}
+use lib.ListN.{length, drop, get_or, length-drop}
 use lib.Dec.{eqb}
 use borrow.Author.Tests.{eq-eqb, ne_eqb, eqb-false}
 use Rattle.text.specs.Bytes.{byte}
-use Rattle.text.specs.Reader.{miss, got, Reader}
+use Rattle.text.specs.Reader.{miss, got, Reader, char}
 use Rattle.text.specs.Placed.{Reads, unread, upto}
-use Rattle.text.proofs.Places.{here, ended, a-read, no-read}
+use Rattle.text.proofs.Places.{here, ended, a-read, no-read, took}
+use Rattle.text.proofs.Binds.{char-one}
 use Rattle.text.specs.Many.{skip, eof, one_of3}
 
 module _ (c : ℕ) (s : List ℕ) (i : ℕ) where
@@ -27,6 +28,13 @@ module _ (c : ℕ) (s : List ℕ) (i : ℕ) where
   skip-end h = rw (ended s i h)
 
 module _ {s : List ℕ} {at : ℕ} where
+  -- a byte that was read is one of the text
+  pub byte-within : (c : ℕ) {p : ℕ} → Reads s at (char c) (upto tt p) → p ≤ length s
+  byte-within c {p} t =
+      let k = took t refl in
+      let e = simp length-drop at (char-one c (drop at s) (drop p s) k.reads) in
+      omega (arith, k.within, e)
+
   pub at-end : length s ≤ at → Reads s at eof (upto tt at)
   unfolding eof
   at-end h = a-read (rw (ended s at h)) (omega arith) (omega arith)

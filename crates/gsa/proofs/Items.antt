@@ -10,8 +10,7 @@ use Rattle.text.specs.Reader.{Parse, miss, refuse, got, after, Reader, prepend, 
 use Rattle.text.specs.Placed.{Reads, upto}
 use Rattle.text.proofs.Places.{Took, a-read}
 use Rattle.text.specs.Many.{many, many0}
-use Rattle.gsa.specs.Gsa.{item, prn_fields, filled, kept}
-use Rattle.gsa.specs.Answer.{row, Row}
+use Rattle.gsa.specs.Gsa.{item, prn_fields, filled, kept, row}
 use Rattle.gsa.proofs.Eats.{item-eats}
 use Rattle.gsa.proofs.Rows.{row-length, row-used, row-put, chosen, chosen-fewer, chosen-full, chosen-more}
 
@@ -79,8 +78,12 @@ module _ {s : List ℕ} {at : ℕ} {cells : List ℕ} {count seen i : ℕ} (g : 
   pub stop : item (drop i s) ≡ miss → Reads s at prn_fields (upto (take count cells) i)
   stop e = a-read (all-read e ∙ ap (λ (xs : List ℕ). got xs (drop i s)) (sym first-cells)) g.past g.within
 
-  pub is-row : Row cells count
-  is-row = record { rest = g.holds ∙ ap row (sym first-cells); used = g.filled ∙ ap length (sym first-cells) }
+  -- the cells are all there: what the type of a record's satellites asks
+  pub most : count ≤ kept
+  most = omega (arith, g.filled, chosen-fewer g.front)
+
+  pub rest : cells ≡ row (take count cells)
+  rest = g.holds ∙ ap row (sym first-cells)
 
   pub at-most : seen ≤ kept
   at-most = omega (arith, g.passed)

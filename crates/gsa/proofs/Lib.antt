@@ -1,9 +1,9 @@
 pub mod Eats
 pub mod Rows
+pub mod Cells
 pub mod Items
 pub mod Ends
-pub mod Steps
-pub mod Systems
-pub mod Answered
+pub mod Never
+pub mod Apart
 pub mod Worked
 pub mod Number

@@ -2,14 +2,14 @@
 -- GSA sentence has three decimal places, unless its tail is the empty one, and is answered Number exactly where one of them is
 -- reached and bad: each place stands behind what the parts before it read, and no other part ends in a fault. Assumes nothing.
 use mathlib.Core.List.{List, [], ◌∷◌}
-use lib.ListN.{length}
 use Rattle.text.specs.Bytes.{byte}
-use Rattle.text.specs.Reader.{Fault, Reader, ◌>>◌, one_of}
+use Rattle.text.specs.Reader.{Reader, ◌>>◌, one_of}
 use Rattle.text.specs.Many.{one_of3}
-use Rattle.text.proofs.Faults.{Never, never-bind, never-pure, never-opt, never-or_miss, never-many, never-char, never-one_of, never-one_of3, never-number, never-take_while1, never-all_consuming}
+use Rattle.text.proofs.Faults.{never-bind, never-pure, never-or_miss, never-one_of, never-one_of3}
 use Rattle.decimal.specs.Decimal.{short}
 use Rattle.decimal.proofs.Number.{Place, place, here, unless, NumberAt, behind, never, both, first, otherwise, short-number}
-use Rattle.gsa.specs.Gsa.{item_max, system_max, comma, last_system, empty_tail, item, prn_fields, dop, dops, after_comma, opt_system, full_tail, gsa}
+use Rattle.gsa.specs.Gsa.{comma, empty_tail, prn_fields, dop, dops, full_tail, gsa}
+use Rattle.gsa.proofs.Never.{never-comma, never-empty, never-items, never-system}
 
 -- behind mode and fix, each with its comma, where the tail is not the empty one, and behind the items: what is read of the dilutions
 abbrev pub behind_items : Reader (Unit {0}) → Reader (Unit {0})
@@ -38,26 +38,6 @@ before_vdop = do
 
 abbrev pub gsa_places : List Place
 gsa_places = place short (behind_items here) ∷ place short (behind_items before_hdop) ∷ place short (behind_items before_vdop) ∷ []
-
-module _ {f : Fault} where
-  never-comma : Never f comma
-  never-comma = never-char (byte ",")
-
-  never-empty : Never f empty_tail
-  unfolding empty_tail last_system
-  never-empty =
-      never-bind (never-take_while1 (byte ","))
-      (λ _. never-bind (never-bind (never-all_consuming (never-opt (never-number system_max))) (λ n. never-pure _)) (λ s. never-pure _))
-
-  never-items : Never f prn_fields
-  unfolding prn_fields item
-  never-items =
-      never-bind (λ l. never-many (never-bind (never-opt (never-number item_max)) (λ n. never-bind never-comma (λ _. never-pure n))) (length l) l)
-      (λ is. never-pure _)
-
-  never-system : Never f opt_system
-  unfolding opt_system after_comma
-  never-system = never-bind (never-opt (never-bind never-comma (λ _. never-number system_max))) (λ n. never-pure _)
 
 dop-number : NumberAt dop (place short here ∷ [])
 unfolding dop

@@ -6,8 +6,7 @@ use mathlib.Core.List.{List, [], ◌∷◌, ◌++◌, append_assoc}
 use mathlib.Core.Option.{Option, none, some}
 use lib.ListN.{length, take, set, replicate, length-append, length-replicate, length-take}
 use lib.Seq.{set-append_seam, take-append_seam, take-append-le, take_all}
-use Rattle.gsa.specs.Gsa.{filled, kept}
-use Rattle.gsa.specs.Answer.{row}
+use Rattle.gsa.specs.Gsa.{filled, kept, row}
 
 pub row-length : (xs : List ℕ) → length xs ≤ kept → length (row xs) ≡ kept
 row-length xs h = simp (length-append, length-replicate) (omega arith)

@@ -1,5 +1,5 @@
 -- The data of a GSA sentence, as 01 and gsa.rs read it.
-use Rattle.std.specs.Prelude.{ℕ, List, [], ◌∷◌, take}
+use Rattle.std.specs.Prelude.{ℕ, ◌-◌, List, [], ◌∷◌, ◌++◌, length, take, replicate}
 use Rattle.std.proofs.Math.Option.{Option, none, some}
 use Rattle.text.specs.Bytes.{byte}
 use Rattle.text.specs.Reader.{Reader, pure, opt, alt, or_miss, char, one_of, ◌>>=◌, ◌>>◌}
@@ -47,6 +47,10 @@ system_max = 255
 
 abbrev pub kept : ℕ
 kept = 18
+
+-- that many cells, which hold these satellites, and zero in each cell after them
+abbrev pub row : List ℕ → List ℕ
+row xs = xs ++ replicate (kept - length xs) 0
 
 abbrev pub comma : Reader (Unit {0})
 comma = char (byte ",")

@@ -5,16 +5,17 @@ use mathlib.Core.List.{List}
 use lib.ListN.{drop}
 use mathlib.Core.Option.{Option, none, some}
 use Rattle.text.specs.Reader.{Parse, miss, refuse, got, opt, or_none, pure}
-use Rattle.text.specs.Placed.{Reads}
-use Rattle.text.specs.Value.{value, syntax, is}
+use Rattle.text.specs.Answer.{Finds, seen, told, failed}
+use Rattle.text.specs.declared.Fault.{Fault}
+use Rattle.std.specs.Prelude.{Result, Ok, Err}
+use Rattle.text.specs.Value.{value, is}
 use Rattle.text.proofs.Binds.{bind-got}
-use Rattle.text.proofs.Places.{stop, took}
-use Rattle.text.proofs.Texts.{text-none}
+use Rattle.text.proofs.Places.{took}
+use Rattle.text.proofs.Texts.{whole}
+use Rattle.text.proofs.Finding.{halts}
 use Rattle.gsv.specs.Gsv.{Satellite, Head, Gsv, entry, head, with_entries, gsv}
-use Rattle.gsv.specs.Answer.{head_of, head_at}
+use Rattle.gsv.specs.Answer.{head_of, gsv_data}
 use Rattle.gsv.specs.declared.GsvHead.{GsvHead}
-use Rattle.gsv.specs.declared.HeadAt.{HeadAt}
-use Rattle.gsv.specs.declared.HeadAt.TheVariants.{No, Is}
 use Rattle.gsv.proofs.Never.{opt-entry}
 
 record Slot (l : List ℕ) : Type 0 where
@@ -54,12 +55,12 @@ filled h l =
     in
     record { a = a.slot; b = b.slot; c = c.slot; d = d.slot; reads = rw e }
 
--- what the code's answer to the head says of the whole data
-module _ {s : List ℕ} {r : HeadAt} (reads : Reads s 0 head (head_at r)) where
-  pub no-head : r ≡ No → syntax ≡ value (gsv s)
+-- what a head, or none, says of the whole data
+module _ {s : List ℕ} {r : Result (GsvHead × ℕ) Fault} (reads : Finds s 0 head (seen head_of) r) where
+  pub no-head : {e : Fault} → r ≡ Err e → failed e ≡ value (gsv s)
   unfolding gsv
-  no-head e = text-none s gsv (stop with_entries reads (ap head_at e))
+  no-head {e} h = whole s 0 gsv gsv_data {r = Err e} 0 (record { reads = halts with_entries e reads.reads (ap (told (seen head_of)) h) })
 
-  pub behind-head : {h : GsvHead} {p : ℕ} → r ≡ Is h p → value (with_entries (head_of h) (drop p s)) ≡ value (gsv s)
+  pub behind-head : {h : GsvHead} {p : ℕ} → r ≡ Ok (h, p) → value (with_entries (head_of h) (drop p s)) ≡ value (gsv s)
   unfolding gsv
-  behind-head e = sym (ap (λ (q : Parse Gsv). value q) (bind-got head with_entries s (took reads (ap head_at e)).reads))
+  behind-head e = sym (ap (λ (q : Parse Gsv). value q) (bind-got head with_entries s (took reads.reads (ap (told (seen head_of)) e)).reads))

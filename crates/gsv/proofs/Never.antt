@@ -27,13 +27,16 @@ module _ {f : Fault} where
   unfolding cell
   never-cell max = never-bind (never-opt-number max) (λ n. never-bind never-comma (λ _. never-pure n))
 
-  pub opt-entry : Never f (opt entry)
+  pub never-entry : Never f entry
   unfolding entry
-  opt-entry =
-      never-opt (never-bind (never-counted id_max)
+  never-entry =
+      never-bind (never-counted id_max)
       (λ i. never-bind (never-cell place_max)
       (λ e. never-bind (never-cell place_max)
-      (λ a. never-bind (never-opt-number place_max) (λ s. never-bind never-closing (λ _. never-pure _))))))
+      (λ a. never-bind (never-opt-number place_max) (λ s. never-bind never-closing (λ _. never-pure _)))))
+
+  pub opt-entry : Never f (opt entry)
+  opt-entry = never-opt never-entry
 
 pub never-gsv : Faultless gsv
 unfolding gsv

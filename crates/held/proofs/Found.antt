@@ -7,6 +7,8 @@ use mathlib.Core.List.{List, [], ◌∷◌, map}
 use Rattle.utf8.specs.Utf8.{follow, step, after, ascii}
 use Rattle.text.specs.Bytes.{bytes}
 use Rattle.text.specs.Reader.{◌>>=◌, pure, or_miss, char, until}
+use Rattle.std.specs.Prelude.{Result, Ok, Err}
+use Rattle.frame.specs.declared.refusal.Refusal.{Refusal}
 use Rattle.frame.specs.Refused.{bad_checksum}
 use Rattle.frame.specs.Types.{types, alike, listed}
 use Rattle.frame.specs.Checksum.{checksum_from}
@@ -15,17 +17,15 @@ use Rattle.frame.specs.Frame.{Parts, accepted, taken, known, sentence_type, chec
 use Rattle.frame.proofs.OneByte.{was-accepted}
 use Rattle.held.specs.Calculated.{Sum, sum_in, comes_to, refused}
 use Rattle.held.specs.Answer.{summed}
-use Rattle.held.specs.declared.Calculated.{Calculated}
-use Rattle.held.specs.declared.Calculated.TheVariants.{Is, Refused}
 
 pub found : (l : List ℕ) (p : Parts) → frame l ≡ accepted p → sum_in (frame l) ≡ comes_to p.checksum
 found l p e = ap sum_in e ∙ ap comes_to (was-accepted l p e).sum
 
-only : (r : Calculated) (n : ℕ) → summed r ≡ comes_to n → r ≡ Is n
-only (Is m) n e = let h : m ≡ n = cc in ap Is h
-only (Refused why) n e = let z : ◌≡◌ {A = ℕ} 0 1 = cc in absurd (omega arith)
+only : (r : Result ℕ Refusal) (n : ℕ) → summed r ≡ comes_to n → r ≡ Ok n
+only (Ok m) n e = let h : m ≡ n = cc in ap Ok h
+only (Err why) n e = let z : ◌≡◌ {A = ℕ} 0 1 = cc in absurd (omega arith)
 
-pub answer-found : (l : List ℕ) (p : Parts) (r : Calculated) → summed r ≡ sum_in (frame l) → frame l ≡ accepted p → r ≡ Is p.checksum
+pub answer-found : (l : List ℕ) (p : Parts) (r : Result ℕ Refusal) → summed r ≡ sum_in (frame l) → frame l ≡ accepted p → r ≡ Ok p.checksum
 answer-found l p r h e = only r p.checksum (h ∙ found l p e)
 
 -- a line of 01, and the same with another digit

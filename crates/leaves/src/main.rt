@@ -5,39 +5,51 @@
 #![tactic(auto)]
 
 mod answer;
-mod print;
+mod reader;
 
-use print::say;
+use reader::Reader;
 use std::io;
 use std::io::Read;
-use text::{Next, Whole};
 
-fn row(rt: &impl Print, line: &[u8]) -> io::Result<()> {
-    say(rt, line)?;
-    let Next::At(p) = text::until(line, 0, b' ') else {
-        return Ok(());
-    };
-    if line.len() <= p {
-        return Ok(());
-    }
-    let Whole::Is(n, end) = text::number(line, p + 1, 4294967295) else {
-        return Ok(());
-    };
-    if line.len() <= end {
-        return Ok(());
-    }
-    say(rt, b" = ")?;
-    let from = end + 1;
-    answer::answer(rt, line[0], n, &line[from..])
+// The first byte of a reader's name, its number and its text.
+#[derive(Clone, Copy)]
+struct Case<'a> {
+    name: u8,
+    number: u32,
+    text: &'a [u8],
 }
 
+// The case that a line writes, if it writes one. One byte, whatever it is, stands between the number and the text.
+fn case_of(line: &[u8]) -> Option<Case<'_>> {
+    let mut parts = line.splitn(2, |byte| *byte == b' ');
+    parts.next()?;
+    let rest = parts.next()?;
+    let (number, end) = text::number(rest, 0, u32::MAX).ok()?;
+    let (_, text) = rest.get(end..)?.split_first()?;
+    Some(Case {
+        name: *line.first()?,
+        number,
+        text,
+    })
+}
+
+// A line again, and what comes of its case. No reader answers to an unknown name.
+fn row(rt: &impl Print, line: &[u8]) -> io::Result<()> {
+    rt.write_all(line)?;
+    if let Some(case) = case_of(line) {
+        rt.write_all(b" = ")?;
+        if let Ok(reader) = Reader::try_from(case.name) {
+            reader.answer(rt, case.number, case.text)?;
+        }
+    }
+    rt.write_all(b"\n")
+}
+
+// Each line of the table. What stands behind the last line feed is none.
 fn rows(rt: &impl Print, table: &[u8]) -> io::Result<()> {
-    let mut from = 0;
-    for (i, byte) in table.iter().enumerate() {
-        if *byte == b'\n' {
-            row(rt, &table[from..i])?;
-            say(rt, b"\n")?;
-            from = i + 1;
+    for line in table.split_inclusive(|byte| *byte == b'\n') {
+        if let Some(line) = line.strip_suffix(b"\n") {
+            row(rt, line)?;
         }
     }
     Ok(())

@@ -1,34 +1,20 @@
--- What a line does and what it adds to the counts: neither turns on the satellites beside its answer, case by case. Assumes nothing.
-use Rattle.std.proofs.Common.{◌≡◌, ℕ, ◌+◌, List, [], take, refl, ap, ◌∙◌, arith}
-use Rattle.lines.specs.Places.{line_at}
+-- What a line does and what it adds to the counts, case by case. Assumes nothing.
+use Rattle.std.proofs.Common.{◌≡◌, ℕ, ◌+◌, List, arith, Result, Ok}
 use Rattle.rows.specs.Line.{line_of}
 use Rattle.gather.specs.Table.{Gathers}
 use Rattle.gather.specs.declared.line.Outcome.{Outcome}
 use Rattle.gsv.specs.Answer.{gsv_sentence}
-use Rattle.sentence.specs.Answer.{record_of}
+use Rattle.frame.specs.declared.refusal.Refusal.{Refusal}
+use Rattle.sentence.specs.Answer.{answer_of}
 use Rattle.sentence.specs.declared.Record.{Record}
 use Rattle.gsv.specs.declared.GsvRecord.{GsvRecord}
 use Rattle.answer.specs.Sentence.{is_rmc, is_gsa, is_gsv, is_gga, is_gll, is_vtg, is_other, is_refused}
-use Rattle.sentence.specs.declared.Record.TheVariants.{Rmc, Gsa, Gsv, Gga, Gll, Vtg, Other, Refused}
-use Rattle.fed.specs.Line.{LogLine, blank, read, said_of, accepted_gsv}
-use Rattle.logs.specs.declared.line.Line as Code
-use Rattle.logs.specs.declared.line.Line.TheVariants.{Blank, Read}
-use Rattle.logs.specs.declared.line.LineAt.{LineAt}
+use Rattle.sentence.specs.declared.Record.TheVariants.{Gsv}
+use Rattle.fed.specs.Line.{LogLine, blank, read, accepted_gsv}
 use Rattle.logs.specs.declared.walk.Counts.{Counts}
 use Rattle.logs.specs.Walk.{tallied}
-use Rattle.logs.specs.Answer.{line_in, Follows}
-use Rattle.logs.specs.Code.{SaysLine, sort_of, tallied_by}
-
-gsv-beside : (xs : List ℕ) (l : Code.Line) → accepted_gsv (line_in [] l) ≡ accepted_gsv (line_in xs l)
-gsv-beside xs Blank = refl
-gsv-beside xs (Read (Rmc r)) = refl
-gsv-beside xs (Read (Gsa g)) = refl
-gsv-beside xs (Read (Gsv g)) = refl
-gsv-beside xs (Read (Gga g)) = refl
-gsv-beside xs (Read (Gll g)) = refl
-gsv-beside xs (Read (Vtg v)) = refl
-gsv-beside xs (Read (Other k)) = refl
-gsv-beside xs (Read (Refused r)) = refl
+use Rattle.logs.specs.Answer.{Follows}
+use Rattle.logs.specs.Code.{sort_of, tallied_by}
 
 module _ (c : Counts) (next : ℕ) where
   zero' : (x : ℕ) → x ≡ x + 0
@@ -49,12 +35,7 @@ module _ (c : Counts) (next : ℕ) where
   by-sort (read (is_other k)) = one-accepted
   by-sort (read (is_refused r)) = λ i. record { lines = c.lines + 1; blank = zero' c.blank i; accepted = zero' c.accepted i; refused = c.refused + 1; groups = c.groups; next = next }
 
--- the line at a place, as the code has it: the GSV sentence that it is, and what it counts as and does
-module _ (log : List ℕ) (p : ℕ) (l : LineAt) (says : SaysLine log p l) where
-  pub gsv-is : accepted_gsv (line_in [] l.line) ≡ accepted_gsv (said_of (line_at log p))
-  gsv-is = gsv-beside (take l.count l.satellites) l.line ∙ ap accepted_gsv says.says
-
 -- a GSV record
-pub follows-gsv : (a : Record) (g : GsvRecord) (t t' : List ℕ) (o : Outcome) → a ≡ Gsv g → Gathers t t' (line_of (gsv_sentence g)) o
-    → Follows (accepted_gsv (read (record_of [] a))) t t' o
+pub follows-gsv : (a : Result Record Refusal) (g : GsvRecord) (t t' : List ℕ) (o : Outcome) → a ≡ Ok (Gsv g) → Gathers t t' (line_of (gsv_sentence g)) o
+    → Follows (accepted_gsv (read (answer_of a))) t t' o
 follows-gsv a g t t' o e x = rw e (record { words = x.words; says = x.says })

@@ -1,16 +1,11 @@
 -- The line at a place, as the code finds it: the reader's answer to the bytes from the place to the cut is what the line there says.
 -- Assumes nothing.
-use Rattle.std.proofs.Common.{◌≡◌, ℕ, ◌+◌, ◌-◌, ◌<◌, ◌≤◌, min, List, [], ◌∷◌, length, take, drop, sym, refl, ap, ◌∙◌, subst, arith, length-drop, length-take}
+use Rattle.std.proofs.Common.{◌≡◌, ℕ, ◌+◌, ◌-◌, ◌<◌, ◌≤◌, min, List, [], ◌∷◌, length, take, drop, sym, refl, ap, ◌∙◌, arith, length-drop, length-take}
 use Rattle.lines.specs.Places.{stretch, line_at, next_place}
 use Rattle.lines.proofs.Next.{next-is}
-use Rattle.gsa.specs.Answer.{row}
 use Rattle.answer.specs.Sentence.{answer}
-use Rattle.sentence.specs.Answer.{Says}
-use Rattle.sentence.specs.declared.ParseResult.{ParseResult}
-use Rattle.fed.specs.Line.{LogLine, blank, read, said_of}
-use Rattle.logs.specs.declared.line.Line.TheVariants.{Blank, Read}
-use Rattle.logs.specs.Answer.{beside_said, Cells}
-use Rattle.logs.specs.Code.{SaysLine, CutAt}
+use Rattle.fed.specs.Line.{blank, read, said_of}
+use Rattle.logs.specs.Code.{CutAt}
 
 said-read : (l : List ℕ) → 0 < length l → read (answer l) ≡ said_of l
 said-read [] h = absurd (omega arith)
@@ -37,22 +32,3 @@ module _ (log : List ℕ) (p cut : ℕ) (in' : p < length log) (line : CutAt log
       ap length line.line ∙ length-take (cut - p) (drop p log) ∙ ap (min (cut - p)) (length-drop p log) in
       let k : 0 < length (line_at log p) = omega (arith, line.after, line.within) in
       ap (λ (t : List ℕ). read (answer t)) (e ∙ sym line.line) ∙ said-read (line_at log p) k
-
--- as a step has it
-module _ {log : List ℕ} {p next : ℕ} (after : next ≡ next_place log p) where
-  pub says-blank : blank ≡ said_of (line_at log p) → SaysLine log p (record { line = Blank; satellites = row []; count = 0; next = next })
-  says-blank l =
-      record {
-        says = l;
-        beside = subst (λ (s : LogLine). Cells (beside_said s) (row []) 0) l (record { are = refl; number = refl });
-        next = after;
-      }
-
-  pub says-read : (text : List ℕ) (a : ParseResult) → Says (answer text) a → read (answer text) ≡ said_of (line_at log p)
-      → SaysLine log p (record { line = Read a.answer; satellites = a.satellites; count = a.count; next = next })
-  says-read text a ea l =
-      record {
-        says = ap read ea.says ∙ l;
-        beside = subst (λ (s : LogLine). Cells (beside_said s) a.satellites a.count) l (record { are = ea.beside.cells_are; number = ea.beside.count-is });
-        next = after;
-      }

@@ -1,9 +1,17 @@
 -- A line goes on behind bytes that are no line feeds. Assumes nothing.
-use Rattle.std.proofs.Common.{◌≡◌, ℕ, suc, ◌+◌, ◌<◌, List, length, get_or, drop, ap, ◌∙◌, arith}
+use Rattle.std.proofs.Common.{◌≡◌, ℕ, suc, ◌+◌, ◌-◌, ◌<◌, ◌≤◌, List, length, get_or, take, drop, ap, ◌∙◌, arith, length-take, length-drop}
+use Rattle.std.proofs.lemmas.List.{get_or-take, get_or-drop}
 use Rattle.lines.specs.Places.{stretch}
 use Rattle.lines.proofs.Scan.{stretch-more}
 
 module _ (log : List ℕ) (p : ℕ) where
+  -- the bytes looked at
+  pub block-long : (n : ℕ) → p + n ≤ length log → length (take (p + n - p) (drop p log)) ≡ n
+  block-long n h = omega (arith, length-take (p + n - p) (drop p log), length-drop p log)
+
+  pub block-byte : (n j : ℕ) → j < n → get_or (take (p + n - p) (drop p log)) j 0 ≡ get_or log (p + j) 0
+  block-byte n j h = get_or-take (p + n - p) (drop p log) j 0 (omega arith) ∙ get_or-drop p log j 0
+
   pub clear-none : length (stretch (drop p log)) ≡ 0 + length (stretch (drop (p + 0) log))
   clear-none =
       let z : p ≡ p + 0 = omega arith in

@@ -1,5 +1,6 @@
 -- How a count of the whole log goes on: as a walk with a table of words does, of which the heads are kept. Assumes nothing.
-use Rattle.std.proofs.Common.{◌≡◌, ℕ, ◌-◌, ◌<◌, ◌≤◌, true, List, length, replicate, sym, refl, subst, arith}
+use Rattle.std.proofs.Common.{◌≡◌, ℕ, ◌-◌, ◌<◌, ◌≤◌, true, List, length, replicate, sym, refl, subst, arith, Ok}
+use mathlib.Core.Option.{none}
 use Rattle.gather.specs.Heads.{head_words, Matches}
 use Rattle.gather.specs.Table.{fresh_table}
 use Rattle.gather.proofs.Counted.{matches-fresh}
@@ -7,11 +8,10 @@ use Rattle.lines.specs.Places.{is_place}
 use Rattle.fed.specs.Line.{Gatherer}
 use Rattle.logs.specs.declared.walk.Counts.{Counts}
 use Rattle.logs.specs.declared.walk.LineTaken.{LineTaken}
-use Rattle.logs.specs.declared.walk.Walked.TheVariants.{Went}
 use Rattle.logs.specs.Step.{longest}
 use Rattle.logs.specs.Walk.{begin, grouped, walk_of}
 use Rattle.logs.specs.Answer.{walk_in}
-use Rattle.logs.specs.Code.{tallied_by, Within, TakesHead}
+use Rattle.logs.specs.Code.{barred_by, tallied_by, Within, TakesHead}
 use Rattle.logs.proofs.Goes as goes
 use Rattle.logs.proofs.Goes.{Goes, goes-first, fit-within}
 use Rattle.logs.proofs.Answers.{walk-ended}
@@ -63,7 +63,6 @@ module _ (log heads : List ℕ) (c : Counts) (now' : Counting log c heads) (in' 
           }
 
 -- no line is left
-pub counted-all : (log heads : List ℕ) (c : Counts) → length log ≤ longest → Counting log c heads → length log ≤ c.next
-    → walk_in (Went c) ≡ (walk_of log 0 (length log) fresh_table).answer
-counted-all log heads c short w h =
-    (walk-ended log 0 (length log) fresh_table short (sym (first log)) refl c w.table w.going h).says
+pub counted-all : (log heads : List ℕ) (c : Counts) → none ≡ barred_by log 0 → Counting log c heads → length log ≤ c.next
+    → walk_in (Ok c) ≡ (walk_of log 0 (length log) fresh_table).answer
+counted-all log heads c free w h = (walk-ended log 0 (length log) fresh_table free c w.table w.going h).says

@@ -158,6 +158,9 @@ module _ (log : List ℕ) (place allowance : ℕ) (g : Gatherer) (c : Counts) (a
         omega (arith, now'.short, now'.fit)
 
     module _ (c' : Counts) (ec : c' ≡ grouped u t.handed) where
+      pub line-more : c'.lines ≡ c.lines + 1
+      line-more = ap (λ (y : Counts). y.lines) ec ∙ grouped-lines u t.handed ∙ ap (λ (y : Counts). y.lines) right
+
       -- the place grows
       pub further : length log - c'.next < length log - c.next
       further =

@@ -2,6 +2,7 @@ pub mod Places
 pub mod Blocks
 pub mod AtPlace
 pub mod Adds
+pub mod Start
 pub mod OneStep
 pub mod Goes
 pub mod Sums

@@ -1,60 +1,48 @@
 -- What each answer of the code says.
-use Rattle.std.specs.Prelude.{◌≡◌, ℕ, List, [], length, take}
-use Rattle.std.proofs.Math.Option.{Option}
+use Rattle.std.specs.Prelude.{◌≡◌, ℕ, List, Option, Some, None, Result, Ok, Err}
+use Rattle.std.proofs.Math.Option.{Option as Maybe}
 use Rattle.frame.specs.Answer.{refused as refusal}
-use Rattle.gsa.specs.Answer.{row}
+use Rattle.frame.specs.declared.refusal.Refusal.{Refusal}
 use Rattle.gsv.specs.Gsv.{GsvSentence}
-use Rattle.sentence.specs.Answer.{record_of, satellites_of}
+use Rattle.sentence.specs.Answer.{answer_of}
+use Rattle.sentence.specs.declared.Record.{Record}
 use Rattle.gather.specs.declared.line.Outcome.{Outcome}
+use Rattle.gather.specs.declared.line.Outcome.TheVariants.{Nothing}
 use Rattle.fed.specs.Line.{LogLine, blank, read, gathers}
 use Rattle.logs.specs.Step.{Step, refused, end, line, Stepped}
 use Rattle.logs.specs.Walk.{Walk, barred, went, Walked}
-use Rattle.logs.specs.declared.line.Line as Code
-use Rattle.logs.specs.declared.line.Line.TheVariants.{Blank, Read}
 use Rattle.logs.specs.declared.step.Stepped as CodeStep
 use Rattle.logs.specs.declared.step.Stepped.TheVariants as stepped
-use Rattle.logs.specs.declared.step.StepAnswer.{StepAnswer}
-use Rattle.logs.specs.declared.walk.Walked as CodeWalk
-use Rattle.logs.specs.declared.walk.Walked.TheVariants as walked
+use Rattle.logs.specs.declared.walk.Counts.{Counts}
 
--- with the satellites that stand beside it
-abbrev pub line_in : List ℕ → Code.Line → LogLine
-line_in xs Blank = blank
-line_in xs (Read r) = read (record_of xs r)
+abbrev pub line_in : Option (Result Record Refusal) → LogLine
+line_in None = blank
+line_in (Some r) = read (answer_of r)
 
 -- the words after a line that is this GSV sentence, or none, and what is said of its row
-pub record Follows (x : Option GsvSentence) (t t' : List ℕ) (r : Outcome) : Type 0 where
+pub record Follows (x : Maybe GsvSentence) (t t' : List ℕ) (r : Outcome) : Type 0 where
   pub words : t' ≡ (gathers t x).gatherer
   pub says : r ≡ (gathers t x).handed
 
-abbrev pub beside_said : LogLine → List ℕ
-beside_said blank = []
-beside_said (read a) = satellites_of a
+abbrev pub step_in : Result CodeStep.Stepped Refusal → Step
+step_in (Err r) = refused (refusal r)
+step_in (Ok (stepped.End p)) = end p
+step_in (Ok (stepped.Line l o p)) = line (line_in l) p
 
-abbrev pub step_in : List ℕ → CodeStep.Stepped → Step
-step_in xs (stepped.Refused r) = refused (refusal r)
-step_in xs (stepped.End p) = end p
-step_in xs (stepped.Line l p) = line (line_in xs l) p
+-- what a step says of a row: only a line says anything
+abbrev pub handed_in : Result CodeStep.Stepped Refusal → Outcome
+handed_in (Err r) = Nothing
+handed_in (Ok (stepped.End p)) = Nothing
+handed_in (Ok (stepped.Line l o p)) = o
 
-abbrev pub beside_step : Step → List ℕ
-beside_step (refused r) = []
-beside_step (end p) = []
-beside_step (line s p) = beside_said s
+pub record SaysStep (s : Stepped) (after : List ℕ) (r : Result CodeStep.Stepped Refusal) : Type 0 where
+  pub says : step_in r ≡ s.answer
+  pub gathered : record { gatherer = after; handed = handed_in r } ≡ s.gathered
 
--- satellites stand in the first cells, and every other cell is zero
-pub record Cells (xs : List ℕ) (cells : List ℕ) (count : ℕ) : Type 0 where
-  pub are : cells ≡ row xs
-  pub number : count ≡ length xs
+abbrev pub walk_in : Result Counts Refusal → Walk
+walk_in (Err r) = barred (refusal r)
+walk_in (Ok c) = went c
 
-pub record SaysStep (s : Stepped) (after : List ℕ) (r : StepAnswer) : Type 0 where
-  pub says : step_in (take r.count r.satellites) r.stepped ≡ s.answer
-  pub beside : Cells (beside_step s.answer) r.satellites r.count
-  pub gathered : record { gatherer = after; handed = r.handed } ≡ s.gathered
-
-abbrev pub walk_in : CodeWalk.Walked → Walk
-walk_in (walked.Refused r) = barred (refusal r)
-walk_in (walked.Went c) = went c
-
-pub record SaysWalk (w : Walked) (after : List ℕ) (r : CodeWalk.Walked) : Type 0 where
+pub record SaysWalk (w : Walked) (after : List ℕ) (r : Result Counts Refusal) : Type 0 where
   pub says : walk_in r ≡ w.answer
   pub gatherer : after ≡ w.gatherer

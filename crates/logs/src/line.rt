@@ -3,6 +3,7 @@ ghost use Rattle.std.specs.Prelude.{◌≡◌, ◌+◌, ◌<◌, ◌≤◌, min,
 ghost use Rattle.lines.specs.Places.{is_place, stretch};
 ghost use Rattle.logs.specs.Code.{SaysLine, CutAt, Bounded, Saw, Clear};
 
+use frame::Refusal;
 use sentence::Record;
 
 // A log has at most this many bytes.
@@ -10,7 +11,7 @@ pub const LONGEST: usize = 65536;
 
 // Whether a step can begin there: 0, the length, or just after a line feed.
 pub fn is_place(log: &[u8], place: usize) -> bool
-    ensures { (result ≡ is_place log.now place) × (log.now ≡ log.now) }
+    ensures { result ≡ is_place log.now place }
 {
     if place == 0 {
         return true;
@@ -43,10 +44,8 @@ fn feeds(log: &[u8], at: usize) -> bool
     ensures { Clear log.now at 16 result }
 {
     let mut feed = false;
-    let mut j = 0;
-    while j < BLOCK {
-        feed = saw(feed, log[at + j]);
-        j += 1;
+    for b in &log[at..at + BLOCK] {
+        feed = saw(feed, *b);
     }
     feed
 }
@@ -72,19 +71,19 @@ fn skip(log: &[u8], at: usize) -> usize
 fn line_end(log: &[u8], at: usize) -> usize
     ensures { result ≡ at + length (stretch (drop at log.now)) }
 {
-    let mut i = skip(log, at);
-    while i < log.len() {
+    let from = skip(log, at);
+    for i in from..log.len() {
         if log[i] == b'\n' {
             return i;
         }
-        i += 1;
     }
-    i
+    from.max(log.len())
 }
 
 // The line's end without a carriage return before it.
 fn line_cut(log: &[u8], at: usize, end: usize) -> usize
-    requires { (at ≤ length log.now) × (end ≡ at + length (stretch (drop at log.now))) }
+    requires within { at ≤ length log.now }
+    requires at_end { end ≡ at + length (stretch (drop at log.now)) }
     ensures { CutAt log.now at result }
 {
     if end <= at {
@@ -124,49 +123,18 @@ pub(crate) fn bounds_at(log: &[u8], at: usize) -> Bounds
     Bounds { cut, next }
 }
 
-// What a line of the log is.
-#[derive(Clone, Copy)]
-pub enum Line {
-    Blank,
-    Read(Record),
-}
+// What a line of the log is: its answer, or none where it is blank.
+pub type Line = Option<Result<Record, Refusal>>;
 
-// The line at a place, the satellites beside its answer, and the place after it.
-#[derive(Clone, Copy)]
-pub struct LineAt {
-    pub line: Line,
-    pub satellites: [u32; gsa::SATELLITES],
-    pub count: usize,
-    pub next: usize,
-}
-
-// The line at a place that is not the end.
-pub(crate) fn line_at(log: &[u8], at: usize) -> LineAt
+// The line at a place that is not the end, and the place after it.
+pub(crate) fn line_at(log: &[u8], at: usize) -> (Line, usize)
     requires { at < length log.now }
     ensures { SaysLine log.now at result }
 {
-    let b = bounds_at(log, at);
-    let cut = b.cut;
-    let next = b.next;
-    if cut == at {
-        let line = Line::Blank;
-        return LineAt {
-            line,
-            satellites: [0u32; gsa::SATELLITES],
-            count: 0,
-            next,
-        };
+    let bounds = bounds_at(log, at);
+    if bounds.cut == at {
+        return (None, bounds.next);
     }
-    let text = &log[at..cut];
-    let read = sentence::parse_bytes(text);
-    let answer = read.answer;
-    let satellites = read.satellites;
-    let count = read.count;
-    let line = Line::Read(answer);
-    LineAt {
-        line,
-        satellites,
-        count,
-        next,
-    }
+    let answer = sentence::parse_bytes(&log[at..bounds.cut]);
+    (Some(answer), bounds.next)
 }

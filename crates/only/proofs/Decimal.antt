@@ -1,58 +1,41 @@
 -- No second answer of `decimal`. Assumes nothing.
-use Rattle.std.proofs.Common.{◌≡◌, ℕ, ◌^◌, min, List, refl}
-use mathlib.Core.Option.{Option, none, some}
-use lib.Ieee.{Float, binary32, binary64}
-use Rattle.text.specs.Placed.{Placed, unread, refused, upto, Reads}
+use Rattle.std.specs.Prelude.{Option, Result}
+use Rattle.std.proofs.Common.{◌≡◌, ℕ, ◌^◌, min, List}
+use Rattle.std.specs.Float.{binary32, binary64}
+use lib.Ieee.{Float}
+use Rattle.text.specs.Answer.{Finds, held_as, seen}
+use Rattle.text.specs.declared.Fault.{Fault}
 use Rattle.decimal.specs.Bits.{bits_of}
-use Rattle.decimal.specs.Places.{Short, Long, short_decimal, long_decimal}
-use Rattle.decimal.specs.Answer.{short_at, long_at}
+use Rattle.decimal.specs.Places.{short_decimal, long_decimal}
+use Rattle.decimal.specs.Answer.{a_short, a_long}
 use Rattle.decimal.specs.declared.ShortDecimal.{ShortDecimal}
-use Rattle.decimal.specs.declared.ShortAt.{ShortAt}
-use Rattle.decimal.specs.declared.ShortAt.TheVariants.{Absent as NoShort, Is as AShort, Number as NotShort}
 use Rattle.decimal.specs.declared.LongDecimal.{LongDecimal}
-use Rattle.decimal.specs.declared.LongAt.{LongAt}
-use Rattle.decimal.specs.declared.LongAt.TheVariants.{Absent as NoLong, Is as ALong, Number as NotLong}
-use Rattle.only.proofs.Laws.{same, undone, reads}
+use Rattle.only.proofs.Laws.{same, TellsApart, held-as-apart, seen-apart, finds}
 
--- a struct has the fields of what it means, so `refl` undoes it
-abbrev pub short-of : Short → ShortDecimal
-short-of d = record { whole = d.whole; decimals = d.decimals; value = d.value }
+-- a struct has the fields of what it means
+pub short-apart : TellsApart a_short
+short-apart = record { one = λ e i. record { whole = (e i).whole; decimals = (e i).decimals; value = (e i).value } }
 
-short-at : Placed (Option Short) → ShortAt
-short-at unread = NotShort
-short-at (refused f) = NotShort
-short-at (upto none p) = NoShort p
-short-at (upto (some d) p) = AShort (short-of d) p
-
-short-at-is : (r : ShortAt) → short-at (short_at r) ≡ r
-unfolding short-at
-short-at-is NotShort = refl
-short-at-is (NoShort p) = refl
-short-at-is (AShort d p) = refl
-
-abbrev long-of : Long → LongDecimal
-long-of d = record { minus = d.minus; size = d.size; decimals = d.decimals; billionths = d.billionths; value = d.value }
-
-long-at : Placed (Option Long) → LongAt
-long-at unread = NotLong
-long-at (refused f) = NotLong
-long-at (upto none p) = NoLong p
-long-at (upto (some d) p) = ALong (long-of d) p
-
-long-at-is : (r : LongAt) → long-at (long_at r) ≡ r
-unfolding long-at
-long-at-is NotLong = refl
-long-at-is (NoLong p) = refl
-long-at-is (ALong d p) = refl
+long-apart : TellsApart a_long
+long-apart = record {
+  one = λ e i.
+      record {
+        minus = (e i).minus;
+        size = (e i).size;
+        decimals = (e i).decimals;
+        billionths = (e i).billionths;
+        value = (e i).value;
+      };
+}
 
 pub pow10 : (k : ℕ) {r q : ℕ} → r ≡ 10 ^ min k 9 → q ≡ 10 ^ min k 9 → r ≡ q
 pow10 k = same
 
-pub short-decimal : (s : List ℕ) (at : ℕ) {r q : ShortAt} → Reads s at short_decimal (short_at r) → Reads s at short_decimal (short_at q) → r ≡ q
-short-decimal s at x y = undone short_at short-at short-at-is (reads x y)
+pub short-decimal : (s : List ℕ) (at : ℕ) {r q : Result (Option ShortDecimal × ℕ) Fault} → Finds s at short_decimal (seen (held_as a_short)) r → Finds s at short_decimal (seen (held_as a_short)) q → r ≡ q
+short-decimal s at = finds (seen-apart (held-as-apart short-apart))
 
-pub long-decimal : (s : List ℕ) (at : ℕ) {r q : LongAt} → Reads s at long_decimal (long_at r) → Reads s at long_decimal (long_at q) → r ≡ q
-long-decimal s at x y = undone long_at long-at long-at-is (reads x y)
+pub long-decimal : (s : List ℕ) (at : ℕ) {r q : Result (Option LongDecimal × ℕ) Fault} → Finds s at long_decimal (seen (held_as a_long)) r → Finds s at long_decimal (seen (held_as a_long)) q → r ≡ q
+long-decimal s at = finds (seen-apart (held-as-apart long-apart))
 
 pub bits-f32 : (x : Float) {r q : ℕ} → r ≡ bits_of binary32 0x7FC00000 x → q ≡ bits_of binary32 0x7FC00000 x → r ≡ q
 bits-f32 x = same

@@ -1,97 +1,64 @@
 -- No second answer of `frame`. A refusal is determined by its number and what it carries, and a framed line by its outcome.
 -- Assumes nothing.
-use Rattle.std.proofs.Common.{◌≡◌, ℕ, Bool, List, [], ◌∷◌, get_or, refl, ap}
-use lib.Seq.{slice}
+use Rattle.std.specs.Prelude.{Result, Ok, Err}
+use Rattle.std.proofs.Common.{◌≡◌, ℕ, Bool, List, get_or, refl, ap}
+use Rattle.std.proofs.Math.Seq.{slice}
 use Rattle.text.specs.Bytes.{byte}
 use Rattle.text.specs.Reader.{until}
-use Rattle.text.specs.Placed.{Placed, unread, upto, Reads}
-use Rattle.text.specs.Placed.{refused as barred}
-use Rattle.text.specs.Answer.{part}
-use Rattle.text.specs.declared.Next.{Next}
-use Rattle.frame.specs.Refused.{Refused}
+use Rattle.text.specs.Answer.{Finds, part}
+use Rattle.text.specs.declared.Fault.{Fault}
 use Rattle.frame.specs.Types.{types, listed}
 use Rattle.frame.specs.Checksum as Checksum
-use Rattle.frame.specs.Frame.{Parts, Outcome, accepted, checksum_field, frame, data_in}
-use Rattle.frame.specs.Frame.{refused as refusal}
-use Rattle.frame.specs.Answer.{letters, refused, number_of, data_of, field, framed}
+use Rattle.frame.specs.Frame.{checksum_field, frame, data_in}
+use Rattle.frame.specs.Answer.{talker_bytes, letters, refused, number_of, parts, data_of, field, framed}
 use Rattle.frame.specs.declared.refusal.Talker.{Talker}
 use Rattle.frame.specs.declared.refusal.Kind.{Kind}
 use Rattle.frame.specs.declared.refusal.Refusal.{Refusal}
 use Rattle.frame.specs.declared.refusal.Refusal.TheVariants as variant
 use Rattle.frame.specs.declared.sentence.Sentence.{Sentence}
-use Rattle.frame.specs.declared.sum.Digits.{Digits}
-use Rattle.frame.specs.declared.sum.Digits.TheVariants.{No as NoDigits, Is as AreDigits}
-use Rattle.frame.specs.declared.parse.Framed.{Framed}
-use Rattle.frame.specs.declared.parse.Framed.TheVariants.{Is as Accepted, Refused as NotAccepted}
-use Rattle.only.proofs.Laws.{same, undone, reads}
-use Rattle.only.proofs.Text.{place-of, part-is}
+use Rattle.only.proofs.Laws.{same, TellsApart, tells, part-apart, finds}
 
-abbrev pub talker-of : List ℕ → Talker
-talker-of l = (get_or l 0 0, get_or l 1 0)
+pub talker-apart : TellsApart talker_bytes
+talker-apart = record { one = λ e i. (get_or (e i) 0 0, get_or (e i) 1 0) }
 
-abbrev pub kind-of : List ℕ → Kind
-kind-of l = (get_or l 0 0, get_or l 1 0, get_or l 2 0)
+pub kind-apart : TellsApart letters
+kind-apart = record { one = λ e i. (get_or (e i) 0 0, get_or (e i) 1 0, get_or (e i) 2 0) }
 
--- the refusals that carry these values, each at its number; there is no number 0
-numbered : List ℕ → List Refusal
-numbered vs =
-    variant.Syntax
-    ∷ variant.BadUtf8
-    ∷ variant.NotAscii
-    ∷ variant.TooLong (get_or vs 0 0)
-    ∷ variant.Syntax
-    ∷ variant.UnknownType
-    ∷ variant.Checksum (get_or vs 0 0) (get_or vs 1 0)
-    ∷ variant.UnknownTalker (talker-of vs)
-    ∷ variant.SystemMismatch (get_or vs 0 0) (get_or vs 1 0)
-    ∷ variant.Number
-    ∷ variant.WrongHeader (kind-of vs) (get_or vs 3 0, get_or vs 4 0, get_or vs 5 0)
-    ∷ variant.BadTime
-    ∷ variant.LogTooLong (get_or vs 0 0)
-    ∷ variant.BadPlace (get_or vs 0 0)
-    ∷ []
+-- by its number, and what it carries
+refusal-one : (r q : Refusal) → number_of r ≡ number_of q → (refused r).carries ≡ (refused q).carries → r ≡ q
+refusal-one variant.BadUtf8 variant.BadUtf8 n c = refl
+refusal-one variant.NotAscii variant.NotAscii n c = refl
+refusal-one (variant.TooLong a) (variant.TooLong b) n c = cc
+refusal-one variant.Syntax variant.Syntax n c = refl
+refusal-one variant.UnknownType variant.UnknownType n c = refl
+refusal-one (variant.Checksum a f) (variant.Checksum b g) n c = cc
+refusal-one (variant.UnknownTalker t) (variant.UnknownTalker u) n c = ap variant.UnknownTalker (talker-apart.one c)
+refusal-one (variant.SystemMismatch a f) (variant.SystemMismatch b g) n c = cc
+refusal-one variant.Number variant.Number n c = refl
+refusal-one (variant.WrongHeader a f) (variant.WrongHeader b g) n c =
+    λ i.
+    variant.WrongHeader (get_or (c i) 0 0, get_or (c i) 1 0, get_or (c i) 2 0) (get_or (c i) 3 0, get_or (c i) 4 0, get_or (c i) 5 0)
+refusal-one variant.BadTime variant.BadTime n c = refl
+refusal-one (variant.LogTooLong a) (variant.LogTooLong b) n c = cc
+refusal-one (variant.BadPlace a) (variant.BadPlace b) n c = cc
+refusal-one r q n c = cc
 
-pub refusal-of : Refused → Refusal
-refusal-of r = get_or (numbered r.carries) r.number variant.Syntax
+pub refusal-apart : TellsApart refused
+refusal-apart = record { one = λ {x} {y} e. refusal-one x y (ap (λ r. r.number) e) (ap (λ r. r.carries) e) }
 
-pub refusal-is : (r : Refusal) → refusal-of (refused r) ≡ r
-unfolding refusal-of numbered
-refusal-is variant.BadUtf8 = refl
-refusal-is variant.NotAscii = refl
-refusal-is (variant.TooLong n) = refl
-refusal-is variant.Syntax = refl
-refusal-is variant.UnknownType = refl
-refusal-is (variant.Checksum c f) = refl
-refusal-is (variant.UnknownTalker t) = refl
-refusal-is (variant.SystemMismatch a b) = refl
-refusal-is variant.Number = refl
-refusal-is (variant.WrongHeader e f) = refl
-refusal-is variant.BadTime = refl
-refusal-is (variant.LogTooLong n) = refl
-refusal-is (variant.BadPlace p) = refl
+framed-one : (s : List ℕ) (r q : Result Sentence Refusal) → framed s r ≡ framed s q → r ≡ q
+framed-one s (Ok x) (Ok y) e =
+    let p : parts s x ≡ parts s y = cc in
+    ap Ok (λ i. record { talker = talker-apart.one (λ j. (p j).talker) i; kind = kind-apart.one (λ j. (p j).kind) i; checksum = (p i).checksum; from = (p i).from; to = (p i).to })
+framed-one s (Ok x) (Err r) e = cc
+framed-one s (Err r) (Ok x) e = cc
+framed-one s (Err r) (Err q) e = ap Err (refusal-apart.one cc)
 
-sentence-of : Parts → Sentence
-sentence-of p =
-    record { talker = talker-of p.talker; kind = kind-of p.kind; checksum = p.checksum; from = p.from; to = p.to }
+framed-apart : (s : List ℕ) → TellsApart (framed s)
+framed-apart s = record { one = λ {x} {y}. framed-one s x y }
 
-framed-of : Outcome → Framed
-framed-of (accepted p) = Accepted (sentence-of p)
-framed-of (refusal r) = NotAccepted (refusal-of r)
-
-framed-is : (s : List ℕ) (r : Framed) → framed-of (framed s r) ≡ r
-unfolding framed-of sentence-of
-framed-is s (Accepted x) = refl
-framed-is s (NotAccepted r) = ap NotAccepted (refusal-is r)
-
-digits-of : Placed ℕ → Digits
-digits-of unread = NoDigits
-digits-of (barred f) = NoDigits
-digits-of (upto v p) = AreDigits v
-
-digits-is : (at : ℕ) (r : Digits) → digits-of (field at r) ≡ r
-unfolding digits-of
-digits-is at NoDigits = refl
-digits-is at (AreDigits v) = refl
+field-apart : (at : ℕ) → TellsApart (field at)
+field-apart at = record { one = λ e i. (e i).0 }
 
 pub Refusal-number : (self : Refusal) {r q : ℕ} → r ≡ number_of self → q ≡ number_of self → r ≡ q
 Refusal-number self = same
@@ -109,17 +76,17 @@ Sentence-data self s = same
 pub known : (kind : Kind) {r q : Bool} → r ≡ listed types (letters kind) → q ≡ listed types (letters kind) → r ≡ q
 known kind = same
 
-pub star : (s : List ℕ) (at : ℕ) {r q : Next} → Reads s at (until (byte "*")) (part s at r) → Reads s at (until (byte "*")) (part s at q) → r ≡ q
-star s at x y = undone (part s at) place-of (part-is s at) (reads x y)
+pub star : (s : List ℕ) (at : ℕ) {r q : Result ℕ Fault} → Finds s at (until (byte "*")) (part s at) r → Finds s at (until (byte "*")) (part s at) q → r ≡ q
+star s at = finds (part-apart s at)
 
 pub checksum : (s : List ℕ) (from to : ℕ) {r q : ℕ} → r ≡ Checksum.checksum (slice from to s) → q ≡ Checksum.checksum (slice from to s) → r ≡ q
 checksum s from to = same
 
-pub checksum-field : (s : List ℕ) (at : ℕ) {r q : Digits} → Reads s at checksum_field (field at r) → Reads s at checksum_field (field at q) → r ≡ q
-checksum-field s at x y = undone (field at) digits-of (digits-is at) (reads x y)
+pub checksum-field : (s : List ℕ) (at : ℕ) {r q : Result ℕ Fault} → Finds s at checksum_field (field at) r → Finds s at checksum_field (field at) q → r ≡ q
+checksum-field s at = finds (field-apart at)
 
-pub parse-nmea-sentence : (s : List ℕ) {r q : Framed} → framed s r ≡ frame s → framed s q ≡ frame s → r ≡ q
-parse-nmea-sentence s x y = undone (framed s) framed-of (framed-is s) (same x y)
+pub parse-nmea-sentence : (s : List ℕ) {r q : Result Sentence Refusal} → framed s r ≡ frame s → framed s q ≡ frame s → r ≡ q
+parse-nmea-sentence s = tells (framed-apart s)
 
 -- here too the contract fixes the bytes
 pub data-of : (line : List ℕ) {r q : List ℕ} → r ≡ data_in (frame line) → q ≡ data_in (frame line) → r ≡ q

@@ -4,7 +4,7 @@ use Rattle.gsv.specs.Answer.{talker, talker as talker_is, head_of, gsv_sentence}
 use Rattle.gsv.specs.declared.GsvTalker.{GsvTalker}
 use Rattle.gsv.specs.declared.GsvHead.{GsvHead}
 use Rattle.gsv.specs.declared.GsvRecord.{GsvRecord}
-use Rattle.rows.specs.Key.{Source, source_from, row_from}
+use Rattle.rows.specs.Key.{source_from, row_from}
 use Rattle.rows.specs.Line.{line_of}
 use Rattle.gather.specs.Answer.{source}
 use Rattle.gather.specs.Words.{stands}
@@ -13,8 +13,8 @@ use Rattle.gather.specs.Table.{Gathers}
 use Rattle.gather.specs.Heads.{GathersHead}
 use Rattle.gather.specs.declared.line.Outcome.{Outcome}
 use Rattle.gather.specs.declared.table.Source as Code
-use Rattle.only.proofs.Laws.{same, undone}
-use Rattle.only.proofs.Gsv.{system-of, system-is}
+use Rattle.only.proofs.Laws.{same, TellsApart, tells}
+use Rattle.only.proofs.Gsv.{system-apart}
 
 pub row-stands : (row : List ℕ) {r q : Bool} → r ≡ stands row → q ≡ stands row → r ≡ q
 row-stands row = same
@@ -25,15 +25,11 @@ pub put : (row : List ℕ) (line : GsvRecord) {l m : List ℕ} {r q : Outcome}
     → (r ≡ q) × (l ≡ m)
 put row line x y = (same x.says y.says, same x.words y.words)
 
-source-back : Source → Code.Source
-source-back s = record { system = system-of s.system }
-
-source-is : (r : Code.Source) → source-back (source r) ≡ r
-unfolding source-back
-source-is r = λ i. record { system = system-is r.system i }
+source-apart : TellsApart source
+source-apart = record { one = λ e i. record { system = system-apart.one (λ j. (e j).system) i } }
 
 pub source-of : (t : GsvTalker) {r q : Code.Source} → source r ≡ source_from (talker t) → source q ≡ source_from (talker t) → r ≡ q
-source-of t x y = undone source source-back source-is (same x y)
+source-of t = tells source-apart
 
 pub row-of : (s : Code.Source) {r q : ℕ} → r ≡ row_from (source s) → q ≡ row_from (source s) → r ≡ q
 row-of s = same

@@ -1,87 +1,71 @@
 -- No second answer of `gsa`. Assumes nothing.
-use Rattle.std.proofs.Common.{◌≡◌, ℕ, List, take, refl, ap}
-use mathlib.Core.Option.{Option, none, some}
-use Rattle.text.specs.Value.{Value, syntax, fault, is, value}
-use Rattle.gsa.specs.System.{Settled, is as settled_as, mismatch, named}
+use Rattle.std.specs.Prelude.{Option, Result, Ok, Err}
+use Rattle.std.proofs.Common.{◌≡◌, ℕ, List, ap}
+use Rattle.text.specs.Value.{value}
+use Rattle.text.specs.Answer.{held, valued}
+use Rattle.text.specs.declared.Fault.{Fault}
+use Rattle.gsa.specs.System.{named}
 use Rattle.gsa.specs.System as Spec
-use Rattle.gsa.specs.Gsa.{Gsa, Dops, gsa}
-use Rattle.gsa.specs.Answer.{system, dops_of, gsa_of, said, Answers, settled, head_with}
-use Rattle.gsa.specs.declared.System.{System}
-use Rattle.gsa.specs.declared.System.TheVariants.{Absent as NoSystem, Is as ASystem}
-use Rattle.gsa.specs.declared.Dops.{Dops as Three}
-use Rattle.gsa.specs.declared.Dops.TheVariants.{Absent as NoThree, Are as ThreeAre}
-use Rattle.gsa.specs.declared.GsaHead.{GsaHead}
-use Rattle.gsa.specs.declared.GsaAnswer.{GsaAnswer}
-use Rattle.gsa.specs.declared.GsaAnswer.TheVariants.{Syntax, Number as NotNumber, Is as AGsa}
-use Rattle.gsa.specs.declared.GsaRead.{GsaRead}
-use Rattle.gsa.specs.declared.Settled.{Settled as SettledCode}
-use Rattle.gsa.specs.declared.Settled.TheVariants.{Is as SettledIs, Mismatch}
-use Rattle.only.proofs.Laws.{same, brought, undone}
-use Rattle.only.proofs.Decimal.{short-of}
+use Rattle.gsa.specs.Gsa.{gsa}
+use Rattle.gsa.specs.Answer.{satellites_of, three_dops, dops_of, gsa_of, settled}
+use Rattle.gsa.specs.declared.GsaData.{GsaData}
+use Rattle.gsa.specs.declared.Mismatch.{Mismatch}
+use Rattle.gsa.proofs.Cells as Cells
+use Rattle.only.proofs.Laws.{same, TellsApart, tells, held-apart, held-as-apart, valued-apart}
+use Rattle.only.proofs.Decimal.{short-apart}
 
-system-of : Option ℕ → System
-system-of none = NoSystem
-system-of (some n) = ASystem n
+-- no other cells hold the same satellites
+satellites-apart : TellsApart satellites_of
+satellites-apart = record { one = Cells.same }
 
-system-is : (r : System) → system-of (system r) ≡ r
-unfolding system-of
-system-is NoSystem = refl
-system-is (ASystem n) = refl
+three-dops-apart : TellsApart three_dops
+three-dops-apart = record {
+  one = λ e i.
+      record {
+        pdop = short-apart.one (λ j. (e j).pdop) i;
+        hdop = short-apart.one (λ j. (e j).hdop) i;
+        vdop = short-apart.one (λ j. (e j).vdop) i;
+      };
+}
 
-dops-of : Option Dops → Three
-dops-of none = NoThree
-dops-of (some d) = ThreeAre (short-of d.pdop) (short-of d.hdop) (short-of d.vdop)
+dops-apart : TellsApart dops_of
+dops-apart = held-as-apart three-dops-apart
 
-dops-is : (r : Three) → dops-of (dops_of r) ≡ r
-unfolding dops-of
-dops-is NoThree = refl
-dops-is (ThreeAre p h v) = refl
+pub gsa-apart : TellsApart gsa_of
+gsa-apart = record {
+  one = λ {x} {y} e i.
+      record {
+        mode = (e i).mode;
+        fix = (e i).fix;
+        satellites = satellites-apart.one {x = x.satellites} {y = y.satellites} (λ j. (e j).satellites) i;
+        dops = dops-apart.one (λ j. (e j).dops) i;
+        system = held-apart.one (λ j. (e j).system) i;
+      };
+}
 
-pub head-of : Gsa → GsaHead
-head-of g = record { mode = g.mode; fix = g.fix; dops = dops-of g.dops; system = system-of g.system }
+settled-one : (r q : Result (Option ℕ) Mismatch) → settled r ≡ settled q → r ≡ q
+settled-one (Ok s) (Ok t) e = ap Ok (held-apart.one cc)
+settled-one (Ok s) (Err m) e = cc
+settled-one (Err m) (Ok s) e = cc
+settled-one (Err m) (Err n) e =
+    let a : m.0 ≡ n.0 = cc in
+    let b : m.1 ≡ n.1 = cc in
+    λ i. Err (a i, b i)
 
--- whatever satellites stand beside it
-pub head-is : (xs : List ℕ) (h : GsaHead) → head-of (gsa_of xs h) ≡ h
-unfolding head-of
-head-is xs h = λ i. record { mode = h.mode; fix = h.fix; dops = dops-is h.dops i; system = system-is h.system i }
+settled-apart : TellsApart settled
+settled-apart = record { one = λ {x} {y}. settled-one x y }
 
-answer-of : Value Gsa → GsaAnswer
-answer-of syntax = Syntax
-answer-of (fault f) = NotNumber
-answer-of (is g) = AGsa (head-of g)
+pub do-parse-gsa : (s : List ℕ) {r q : Result GsaData Fault} → valued gsa_of r ≡ value (gsa s) → valued gsa_of q ≡ value (gsa s) → r ≡ q
+do-parse-gsa s = tells (valued-apart gsa-apart)
 
-answer-is : (xs : List ℕ) (r : GsaAnswer) → answer-of (said xs r) ≡ r
-unfolding answer-of
-answer-is xs Syntax = refl
-answer-is xs NotNumber = refl
-answer-is xs (AGsa h) = ap AGsa (head-is xs h)
-
-settled-of : Settled → SettledCode
-settled-of (settled_as s) = SettledIs (system-of s)
-settled-of (mismatch m n) = Mismatch m n
-
-settled-is : (r : SettledCode) → settled-of (settled r) ≡ r
-unfolding settled-of
-settled-is (SettledIs s) = ap SettledIs (system-is s)
-settled-is (Mismatch m n) = refl
-
-pub do-parse-gsa : (s : List ℕ) {r q : GsaRead} → Answers (value (gsa s)) r → Answers (value (gsa s)) q → r ≡ q
-do-parse-gsa s {r} {q} x y =
-    let answer =
-    brought answer-of (same x.says y.says) (answer-is (take r.count r.satellites) r.answer)
-    (answer-is (take q.count q.satellites) q.answer) in
-    let cells = same x.cells y.cells in
-    let count = same x.count y.count in
-    λ i. record { answer = answer i; satellites = cells i; count = count i }
-
-pub settle : (a b : ℕ) (tail : System) {r q : SettledCode}
-    → settled r ≡ Spec.settle (named a b) (system tail)
-    → settled q ≡ Spec.settle (named a b) (system tail)
+pub settle : (a b : ℕ) (tail : Option ℕ) {r q : Result (Option ℕ) Mismatch}
+    → settled r ≡ Spec.settle (named a b) (held tail)
+    → settled q ≡ Spec.settle (named a b) (held tail)
     → r ≡ q
-settle a b tail x y = undone settled settled-of settled-is (same x y)
+settle a b tail = tells settled-apart
 
-pub with-system : (head : GsaHead) (system : System) {r q : GsaHead}
-    → r ≡ head_with head system
-    → q ≡ head_with head system
+pub with-system : (g : GsaData) (system : Option ℕ) {r q : GsaData}
+    → r ≡ record g { system = system }
+    → q ≡ record g { system = system }
     → r ≡ q
-with-system head system = same
+with-system g system = same

@@ -1,186 +1,104 @@
 -- No second answer of `gsv`. Assumes nothing.
-use Rattle.std.proofs.Common.{◌≡◌, ℕ, List, get_or, drop, refl, ap}
-use mathlib.Core.Option.{Option, none, some}
-use Rattle.text.specs.Placed.{Placed, unread, refused, upto, Reads}
-use Rattle.text.specs.Value.{Value, syntax, fault, is, value}
-use Rattle.gsv.specs.Talker.{Talker, ga, gp, gl, bd, gb, gi, gq, pq, qz, talker_of, letters_of, System, gps, glonass, galileo, beidou, qzss, navic, system_of, system_number}
-use Rattle.gsv.specs.Gsv.{Satellite, Head, head, Gsv, with_entries, gsv, GsvSentence}
-use Rattle.gsv.specs.Answer.{talker, talker_read, letters, gnss, satellite, slot, head_of, head_at, gsv_data, gsv_read, gsv_sentence}
+use Rattle.std.specs.Prelude.{Option, Result}
+use Rattle.std.proofs.Common.{◌≡◌, ℕ, List, drop, refl}
+use Rattle.text.specs.Value.{is, value}
+use Rattle.text.specs.Answer.{held_as, seen, valued, Finds}
+use Rattle.text.specs.declared.Fault.{Fault}
+use Rattle.gsv.specs.Talker.{talker_of, letters_of, system_of, system_number}
+use Rattle.gsv.specs.Gsv.{head, with_entries, gsv}
+use Rattle.gsv.specs.Answer.{talker, gnss, satellite, slot, head_of, gsv_data, gsv_sentence}
 use Rattle.gsv.specs.declared.GsvTalker.{GsvTalker}
 use Rattle.gsv.specs.declared.GsvTalker.TheVariants.{Ga, Gp, Gl, Bd, Gb, Gi, Gq, Pq, Qz}
-use Rattle.gsv.specs.declared.Letters.{Letters}
-use Rattle.gsv.specs.declared.GsvRecord.{GsvRecord}
-use Rattle.gsv.specs.declared.TalkerOf.{TalkerOf}
-use Rattle.gsv.specs.declared.TalkerOf.TheVariants.{Unknown, Is as Names}
-use Rattle.gsv.specs.declared.Slot.{Slot}
-use Rattle.gsv.specs.declared.Slot.TheVariants.{Empty, Seen}
 use Rattle.gsv.specs.declared.GsvHead.{GsvHead}
-use Rattle.gsv.specs.declared.HeadAt.{HeadAt}
-use Rattle.gsv.specs.declared.HeadAt.TheVariants.{No as NoHead, Is as AHead}
 use Rattle.gsv.specs.declared.GsvData.{GsvData}
-use Rattle.gsv.specs.declared.GsvRead.{GsvRead}
-use Rattle.gsv.specs.declared.GsvRead.TheVariants.{Syntax, Is as AGsv}
 use Rattle.gsv.specs.declared.GnssType.{GnssType}
 use Rattle.gsv.specs.declared.GnssType.TheVariants.{Beidou, Galileo, Gps, Glonass, NavIC, Qzss}
-use Rattle.gsv.specs.declared.SatInfo.{SatInfo}
-use Rattle.only.proofs.Laws.{same, undone, reads}
-use Rattle.only.proofs.Text.{held-of, held-is}
+use Rattle.only.proofs.Laws.{same, TellsApart, tells, held-apart, held-as-apart, seen-apart, valued-apart, finds, always-is}
 
-pub system-of : System → GnssType
-system-of beidou = Beidou
-system-of galileo = Galileo
-system-of gps = Gps
-system-of glonass = Glonass
-system-of navic = NavIC
-system-of qzss = Qzss
+talker-one : (r q : GsvTalker) → talker r ≡ talker q → r ≡ q
+talker-one Ga Ga e = refl
+talker-one Gp Gp e = refl
+talker-one Gl Gl e = refl
+talker-one Bd Bd e = refl
+talker-one Gb Gb e = refl
+talker-one Gi Gi e = refl
+talker-one Gq Gq e = refl
+talker-one Pq Pq e = refl
+talker-one Qz Qz e = refl
+talker-one r q e = cc
 
-pub system-is : (r : GnssType) → system-of (gnss r) ≡ r
-unfolding system-of
-system-is Beidou = refl
-system-is Galileo = refl
-system-is Gps = refl
-system-is Glonass = refl
-system-is NavIC = refl
-system-is Qzss = refl
+pub talker-apart : TellsApart talker
+talker-apart = record { one = λ {x} {y}. talker-one x y }
 
-info-of : Satellite → SatInfo
-info-of s = record { id = s.id; elevation = held-of s.elevation; azimuth = held-of s.azimuth; signal = held-of s.signal }
+system-one : (r q : GnssType) → gnss r ≡ gnss q → r ≡ q
+system-one Gps Gps e = refl
+system-one Glonass Glonass e = refl
+system-one Galileo Galileo e = refl
+system-one Beidou Beidou e = refl
+system-one Qzss Qzss e = refl
+system-one NavIC NavIC e = refl
+system-one r q e = cc
 
-info-is : (r : SatInfo) → info-of (satellite r) ≡ r
-unfolding info-of
-info-is r =
-    λ i. record { id = r.id; elevation = held-is r.elevation i; azimuth = held-is r.azimuth i; signal = held-is r.signal i }
+pub system-apart : TellsApart gnss
+system-apart = record { one = λ {x} {y}. system-one x y }
 
-pub talker-back : Talker → GsvTalker
-talker-back ga = Ga
-talker-back gp = Gp
-talker-back gl = Gl
-talker-back bd = Bd
-talker-back gb = Gb
-talker-back gi = Gi
-talker-back gq = Gq
-talker-back pq = Pq
-talker-back qz = Qz
+satellite-apart : TellsApart satellite
+satellite-apart = record {
+  one = λ e i.
+      record {
+        id = (e i).id;
+        elevation = held-apart.one (λ j. (e j).elevation) i;
+        azimuth = held-apart.one (λ j. (e j).azimuth) i;
+        signal = held-apart.one (λ j. (e j).signal) i;
+      };
+}
 
-pub talker-is : (r : GsvTalker) → talker-back (talker r) ≡ r
-unfolding talker-back
-talker-is Ga = refl
-talker-is Gp = refl
-talker-is Gl = refl
-talker-is Bd = refl
-talker-is Gb = refl
-talker-is Gi = refl
-talker-is Gq = refl
-talker-is Pq = refl
-talker-is Qz = refl
+slot-apart : TellsApart slot
+slot-apart = held-as-apart satellite-apart
 
-named-of : Option Talker → TalkerOf
-named-of none = Unknown
-named-of (some t) = Names (talker-back t)
+pub head-apart : TellsApart head_of
+head-apart = record { one = λ e i. record { count = (e i).count; index = (e i).index; view = (e i).view } }
 
-named-is : (r : TalkerOf) → named-of (talker_read r) ≡ r
-unfolding named-of
-named-is Unknown = refl
-named-is (Names t) = ap Names (talker-is t)
+pub gsv-apart : TellsApart gsv_data
+gsv-apart = record {
+  one = λ e i.
+      record {
+        count = (e i).count;
+        index = (e i).index;
+        view = (e i).view;
+        first = slot-apart.one (λ j. (e j).first) i;
+        second = slot-apart.one (λ j. (e j).second) i;
+        third = slot-apart.one (λ j. (e j).third) i;
+        fourth = slot-apart.one (λ j. (e j).fourth) i;
+      };
+}
 
-letters-back : List ℕ → Letters
-letters-back l = record { 0 = get_or l 0 0; 1 = get_or l 1 0 }
+pub talker-of : (a b : ℕ) {r q : Option GsvTalker} → held_as talker r ≡ talker_of a b → held_as talker q ≡ talker_of a b → r ≡ q
+talker-of a b = tells (held-as-apart talker-apart)
 
-slot-of : Option Satellite → Slot
-slot-of none = Empty
-slot-of (some s) = Seen (info-of s)
-
-slot-is : (r : Slot) → slot-of (slot r) ≡ r
-unfolding slot-of
-slot-is Empty = refl
-slot-is (Seen t) = ap Seen (info-is t)
-
-pub gsv-of : Gsv → GsvData
-gsv-of g =
-    record {
-      count = g.count;
-      index = g.index;
-      view = g.view;
-      first = slot-of g.first;
-      second = slot-of g.second;
-      third = slot-of g.third;
-      fourth = slot-of g.fourth;
-    }
-
-pub gsv-is : (g : GsvData) → gsv-of (gsv_data g) ≡ g
-unfolding gsv-of
-gsv-is g =
-    λ i.
-    record {
-      count = g.count;
-      index = g.index;
-      view = g.view;
-      first = slot-is g.first i;
-      second = slot-is g.second i;
-      third = slot-is g.third i;
-      fourth = slot-is g.fourth i;
-    }
-
-read-of : Value Gsv → GsvRead
-read-of syntax = Syntax
-read-of (fault f) = Syntax
-read-of (is g) = AGsv (gsv-of g)
-
-read-is : (r : GsvRead) → read-of (gsv_read r) ≡ r
-unfolding read-of
-read-is Syntax = refl
-read-is (AGsv g) = ap AGsv (gsv-is g)
-
-pub talker-of : (a b : ℕ) {r q : TalkerOf} → talker_read r ≡ talker_of a b → talker_read q ≡ talker_of a b → r ≡ q
-talker-of a b x y = undone talker_read named-of named-is (same x y)
-
-pub letters-of : (t : GsvTalker) {r q : Letters} → letters r ≡ letters_of (talker t) → letters q ≡ letters_of (talker t) → r ≡ q
-unfolding letters-back
-letters-of t x y = undone letters letters-back (λ r. refl) (same x y)
+pub letters-of : (t : GsvTalker) {r q : List ℕ} → r ≡ letters_of (talker t) → q ≡ letters_of (talker t) → r ≡ q
+letters-of t = same
 
 pub gnss-type : (t : GsvTalker) {r q : GnssType} → gnss r ≡ system_of (talker t) → gnss q ≡ system_of (talker t) → r ≡ q
-gnss-type t x y = undone gnss system-of system-is (same x y)
+gnss-type t = tells system-apart
 
 pub system-number : (g : GnssType) {r q : ℕ} → r ≡ system_number (gnss g) → q ≡ system_number (gnss g) → r ≡ q
 system-number g = same
 
-abbrev pub head-back : Head → GsvHead
-head-back h = record { count = h.count; index = h.index; view = h.view }
-
-head-at-back : Placed Head → HeadAt
-head-at-back unread = NoHead
-head-at-back (refused f) = NoHead
-head-at-back (upto h p) = AHead (head-back h) p
-
-head-at-is : (r : HeadAt) → head-at-back (head_at r) ≡ r
-unfolding head-at-back
-head-at-is NoHead = refl
-head-at-is (AHead h p) = refl
-
-pub do-parse-head : (s : List ℕ) {r q : HeadAt} → Reads s 0 head (head_at r) → Reads s 0 head (head_at q) → r ≡ q
-do-parse-head s x y = undone head_at head-at-back head-at-is (reads x y)
+pub do-parse-head : (s : List ℕ) {r q : Result (GsvHead × ℕ) Fault} → Finds s 0 head (seen head_of) r → Finds s 0 head (seen head_of) q → r ≡ q
+do-parse-head s = finds (seen-apart head-apart)
 
 pub with-entries : (s : List ℕ) (at : ℕ) (h : GsvHead) {r q : GsvData}
     → is (gsv_data r) ≡ value (with_entries (head_of h) (drop at s))
     → is (gsv_data q) ≡ value (with_entries (head_of h) (drop at s))
     → r ≡ q
-with-entries s at h {r} {q} x y = undone (λ (d : GsvData). gsv_read (AGsv d)) back back-is (same x y)
-  where
-    back : Value Gsv → GsvData
-    back syntax = r
-    back (fault f) = r
-    back (is g) = gsv-of g
+with-entries s at h = always-is gsv-apart
 
-    back-is : (d : GsvData) → back (gsv_read (AGsv d)) ≡ d
-    back-is d = gsv-is d
-
-pub do-parse-gsv : (s : List ℕ) {r q : GsvRead} → gsv_read r ≡ value (gsv s) → gsv_read q ≡ value (gsv s) → r ≡ q
-do-parse-gsv s x y = undone gsv_read read-of read-is (same x y)
+pub do-parse-gsv : (s : List ℕ) {r q : Result GsvData Fault} → valued gsv_data r ≡ value (gsv s) → valued gsv_data q ≡ value (gsv s) → r ≡ q
+do-parse-gsv s = tells (valued-apart gsv-apart)
 
 -- a record of the two
-pub gsv-record : GsvSentence → GsvRecord
-gsv-record g = record { talker = talker-back g.talker; «data» = gsv-of g.body }
-
-pub gsv-record-is : (g : GsvRecord) → gsv-record (gsv_sentence g) ≡ g
-unfolding gsv-record
-gsv-record-is g = λ i. record { talker = talker-is g.talker i; «data» = gsv-is g.data i }
+pub gsv-record-apart : TellsApart gsv_sentence
+gsv-record-apart = record {
+  one = λ e i. record { talker = talker-apart.one (λ j. (e j).talker) i; «data» = gsv-apart.one (λ j. (e j).body) i };
+}

@@ -1,25 +1,25 @@
 -- No second answer of `held`. A struct with a reference is determined by its plain fields and the bytes that it holds. Assumes nothing.
-use Rattle.std.proofs.Common.{◌≡◌, ℕ, List, refl, ap}
+use Rattle.std.specs.Prelude.{Result, Ok, Err}
+use Rattle.std.proofs.Common.{◌≡◌, ℕ, List, ap}
 use Rattle.frame.specs.Frame.{frame}
 use Rattle.frame.specs.Answer.{data_of}
 use Rattle.frame.specs.declared.refusal.Talker.{Talker}
 use Rattle.frame.specs.declared.refusal.Kind.{Kind}
+use Rattle.frame.specs.declared.refusal.Refusal.{Refusal}
 use Rattle.frame.specs.declared.sentence.Sentence.{Sentence}
-use Rattle.held.specs.Calculated.{Sum, comes_to, refused, sum_in}
+use Rattle.held.specs.Calculated.{sum_in}
 use Rattle.held.specs.Answer.{sum_of, summed}
-use Rattle.held.specs.declared.Calculated.{Calculated}
-use Rattle.held.specs.declared.Calculated.TheVariants.{Is, Refused}
-use Rattle.only.proofs.Laws.{same, undone}
-use Rattle.only.proofs.Frame.{refusal-of, refusal-is}
+use Rattle.only.proofs.Laws.{same, TellsApart, tells}
+use Rattle.only.proofs.Frame.{refusal-apart}
 
-calculated-of : Sum → Calculated
-calculated-of (comes_to n) = Is n
-calculated-of (refused r) = Refused (refusal-of r)
+summed-one : (r q : Result ℕ Refusal) → summed r ≡ summed q → r ≡ q
+summed-one (Ok a) (Ok b) e = cc
+summed-one (Ok a) (Err r) e = cc
+summed-one (Err r) (Ok a) e = cc
+summed-one (Err r) (Err q) e = ap Err (refusal-apart.one cc)
 
-calculated-is : (r : Calculated) → calculated-of (summed r) ≡ r
-unfolding calculated-of
-calculated-is (Is n) = refl
-calculated-is (Refused r) = ap Refused (refusal-is r)
+summed-apart : TellsApart summed
+summed-apart = record { one = λ {x} {y}. summed-one x y }
 
 pub sum-of : (talker : Talker) (kind : Kind) (text : List ℕ) {r q : ℕ} → r ≡ sum_of talker kind text → q ≡ sum_of talker kind text → r ≡ q
 sum-of talker kind text = same
@@ -49,5 +49,5 @@ pub line-checksum : (line : List ℕ) (framed : Sentence) {r q : ℕ}
     → r ≡ q
 line-checksum line framed = same
 
-pub calculate : (line : List ℕ) {r q : Calculated} → summed r ≡ sum_in (frame line) → summed q ≡ sum_in (frame line) → r ≡ q
-calculate line x y = undone summed calculated-of calculated-is (same x y)
+pub calculate : (line : List ℕ) {r q : Result ℕ Refusal} → summed r ≡ sum_in (frame line) → summed q ≡ sum_in (frame line) → r ≡ q
+calculate line = tells summed-apart

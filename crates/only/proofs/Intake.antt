@@ -1,32 +1,29 @@
 -- No second answer of `intake`: neither another word, nor another row, nor another brief answer. Assumes nothing.
-use Rattle.std.proofs.Common.{◌≡◌, ℕ, List, sym, refl, ap, ◌∙◌}
+use Rattle.std.specs.Prelude.{Option, Some, None, Result, Ok, Err}
+use Rattle.std.proofs.Common.{◌≡◌, ℕ, List, refl, ap}
+use Rattle.frame.specs.declared.refusal.Refusal.{Refusal}
+use Rattle.gsv.specs.Answer.{talker, head_of}
 use Rattle.answer.specs.Sentence.{answer}
-use Rattle.gather.specs.declared.line.Outcome.{Outcome}
-use Rattle.intake.specs.Brief.{Brief, accepted, gsv_line, refusal}
 use Rattle.intake.specs.Answer.{brief, outcome_of, Takes}
-use Rattle.intake.specs.declared.Taken.{Taken}
-use Rattle.intake.specs.declared.Taken.TheVariants.{Accepted, Gsv, Refused}
+use Rattle.intake.specs.declared.GsvLine.{GsvLine}
 use Rattle.only.proofs.Laws.{same}
-use Rattle.only.proofs.Frame.{refusal-of, refusal-is}
-use Rattle.only.proofs.Gsv.{talker-back, talker-is, head-back}
+use Rattle.only.proofs.Frame.{refusal-apart}
+use Rattle.only.proofs.Gsv.{talker-apart, head-apart}
 
-taken-of : Brief → Outcome → Taken
-taken-of accepted o = Accepted
-taken-of (gsv_line t h) o = Gsv (talker-back t) (head-back h) o
-taken-of (refusal x) o = Refused (refusal-of x)
+-- by what is said in brief, and of the row
+taken-one : (r q : Result (Option GsvLine) Refusal) → brief r ≡ brief q → outcome_of r ≡ outcome_of q → r ≡ q
+taken-one (Ok None) (Ok None) b o = refl
+taken-one (Ok (Some g)) (Ok (Some h)) b o =
+    let t : talker g.talker ≡ talker h.talker = cc in
+    let e : head_of g.head ≡ head_of h.head = cc in
+    λ i. Ok (Some (record { talker = talker-apart.one t i; head = head-apart.one e i; outcome = o i }))
+taken-one (Err r) (Ok None) b o = cc
+taken-one (Err r) (Err q) b o = ap Err (refusal-apart.one cc)
+taken-one r q b o = cc
 
-taken-is : (r : Taken) → taken-of (brief r) (outcome_of r) ≡ r
-unfolding taken-of
-taken-is Accepted = refl
-taken-is (Gsv t h o) = λ i. Gsv (talker-is t i) h o
-taken-is (Refused x) = ap Refused (refusal-is x)
-
-pub take : (line out table : List ℕ) {l m : List ℕ} {t u : List ℕ} {r q : Taken}
+pub take : (line out table : List ℕ) {l m : List ℕ} {t u : List ℕ} {r q : Result (Option GsvLine) Refusal}
     → Takes (answer line) out l table t r
     → Takes (answer line) out m table u q
     → (r ≡ q) × (l ≡ m) × (t ≡ u)
-take line out table {r = r} {q} x y = (
-  sym (taken-is r) ∙ (λ i. taken-of (same x.says y.says i) (same x.handed y.handed i)) ∙ taken-is q,
-  same x.words y.words,
-  same x.table y.table,
-)
+take line out table {r = r} {q} x y =
+    (taken-one r q (same x.says y.says) (same x.handed y.handed), same x.words y.words, same x.table y.table)

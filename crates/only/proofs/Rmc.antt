@@ -1,71 +1,54 @@
 -- No second answer of `rmc`. Assumes nothing.
-use Rattle.std.proofs.Common.{◌≡◌, ℕ, List, refl, ap}
-use Rattle.text.specs.Reader.{UnknownType, Number, BadTime}
-use Rattle.text.specs.Value.{Value, syntax, fault, is, value}
-use Rattle.rmc.specs.Rmc.{Rmc, rmc}
-use Rattle.rmc.specs.Rmc as Spec
-use Rattle.rmc.specs.Answer.{fix_of, motion_of, ending_of, rmc_data, rmc_read}
-use Rattle.rmc.specs.declared.Fix.{Fix}
-use Rattle.rmc.specs.declared.Motion.{Motion}
-use Rattle.rmc.specs.declared.Ending.{Ending}
+use Rattle.std.specs.Prelude.{Result}
+use Rattle.std.proofs.Common.{◌≡◌, ℕ, List}
+use Rattle.text.specs.Value.{value}
+use Rattle.text.specs.Answer.{valued}
+use Rattle.text.specs.declared.Fault.{Fault}
+use Rattle.rmc.specs.Rmc.{rmc}
+use Rattle.rmc.specs.Answer.{fix_of, motion_of, letters_of, ending_of, rmc_data}
 use Rattle.rmc.specs.declared.RmcData.{RmcData}
-use Rattle.rmc.specs.declared.RmcRead.{RmcRead}
-use Rattle.rmc.specs.declared.RmcRead.TheVariants.{Syntax, Is as ARmc, Number as RmcNumber, BadTime as RmcBad}
-use Rattle.only.proofs.Laws.{same, undone}
-use Rattle.only.proofs.Fields.{time-held, time-held-is, date-held, date-held-is, position-held, position-held-is, short-held, short-held-is, letter-held, letter-held-is}
+use Rattle.only.proofs.Laws.{TellsApart, tells, valued-apart}
+use Rattle.only.proofs.Fields.{time-held-apart, date-held-apart, position-held-apart, short-held-apart, letter-held-apart}
 
-fix-of : Spec.Fix → Fix
-fix-of f = record { time = time-held f.time; status = f.status; position = position-held f.position }
+fix-apart : TellsApart fix_of
+fix-apart = record {
+  one = λ e i.
+      record {
+        time = time-held-apart.one (λ j. (e j).time) i;
+        status = (e i).status;
+        position = position-held-apart.one (λ j. (e j).position) i;
+      };
+}
 
-fix-is : (f : Fix) → fix-of (fix_of f) ≡ f
-unfolding fix-of
-fix-is f = λ i. record { time = time-held-is f.time i; status = f.status; position = position-held-is f.position i }
+motion-apart : TellsApart motion_of
+motion-apart = record {
+  one = λ e i.
+      record {
+        speed = short-held-apart.one (λ j. (e j).speed) i;
+        course = short-held-apart.one (λ j. (e j).course) i;
+        date = date-held-apart.one (λ j. (e j).date) i;
+      };
+}
 
-motion-of : Spec.Motion → Motion
-motion-of m = record { speed = short-held m.speed; course = short-held m.course; date = date-held m.date }
+letters-apart : TellsApart letters_of
+letters-apart = record {
+  one = λ e i. record { mode = letter-held-apart.one (λ j. (e j).mode) i; status = letter-held-apart.one (λ j. (e j).status) i };
+}
 
-motion-is : (m : Motion) → motion-of (motion_of m) ≡ m
-unfolding motion-of
-motion-is m =
-    λ i.
-    record { speed = short-held-is m.speed i; course = short-held-is m.course i; date = date-held-is m.date i }
+ending-apart : TellsApart ending_of
+ending-apart = record {
+  one = λ e i. record { variation = short-held-apart.one (λ j. (e j).variation) i; letters = letters-apart.one (λ j. (e j).letters) i };
+}
 
-ending-of : Spec.Ending → Ending
-ending-of e =
-    record {
-      variation = short-held e.variation;
-      letters = record { mode = letter-held e.letters.mode; status = letter-held e.letters.status };
-    }
+pub rmc-apart : TellsApart rmc_data
+rmc-apart = record {
+  one = λ e i.
+      record {
+        fix = fix-apart.one (λ j. (e j).fix) i;
+        motion = motion-apart.one (λ j. (e j).motion) i;
+        ending = ending-apart.one (λ j. (e j).ending) i;
+      };
+}
 
-ending-is : (e : Ending) → ending-of (ending_of e) ≡ e
-unfolding ending-of
-ending-is e =
-    λ i.
-    record {
-      variation = short-held-is e.variation i;
-      letters = record { mode = letter-held-is e.letters.mode i; status = letter-held-is e.letters.status i };
-    }
-
-pub rmc-of : Rmc → RmcData
-rmc-of r = record { fix = fix-of r.fix; motion = motion-of r.motion; ending = ending-of r.ending }
-
-pub rmc-is : (d : RmcData) → rmc-of (rmc_data d) ≡ d
-unfolding rmc-of
-rmc-is d = λ i. record { fix = fix-is d.fix i; motion = motion-is d.motion i; ending = ending-is d.ending i }
-
-read-of : Value Rmc → RmcRead
-read-of syntax = Syntax
-read-of (fault UnknownType) = Syntax
-read-of (fault Number) = RmcNumber
-read-of (fault BadTime) = RmcBad
-read-of (is r) = ARmc (rmc-of r)
-
-read-is : (r : RmcRead) → read-of (rmc_read r) ≡ r
-unfolding read-of
-read-is Syntax = refl
-read-is (ARmc d) = ap ARmc (rmc-is d)
-read-is RmcNumber = refl
-read-is RmcBad = refl
-
-pub do-parse-rmc : (s : List ℕ) {r q : RmcRead} → rmc_read r ≡ value (rmc s) → rmc_read q ≡ value (rmc s) → r ≡ q
-do-parse-rmc s x y = undone rmc_read read-of read-is (same x y)
+pub do-parse-rmc : (s : List ℕ) {r q : Result RmcData Fault} → valued rmc_data r ≡ value (rmc s) → valued rmc_data q ≡ value (rmc s) → r ≡ q
+do-parse-rmc s = tells (valued-apart rmc-apart)

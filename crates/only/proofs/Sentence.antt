@@ -1,141 +1,87 @@
 -- No second answer of `sentence`. Assumes nothing.
-use Rattle.std.proofs.Common.{◌≡◌, ℕ, List, take, refl, ap}
+use Rattle.std.specs.Prelude.{Result, Ok, Err}
+use Rattle.std.proofs.Common.{◌≡◌, ℕ, List, refl, ap}
 use Rattle.text.specs.Bytes.{bytes}
-use Rattle.frame.specs.Answer.{letters}
-use Rattle.rmc.specs.Rmc.{Rmc}
-use Rattle.gsa.specs.Gsa.{Gsa}
-use Rattle.gga.specs.Gga.{Gga}
-use Rattle.gll.specs.Gll.{Gll}
-use Rattle.vtg.specs.Vtg.{Vtg}
+use Rattle.frame.specs.Answer.{talker_bytes, letters}
 use Rattle.frame.specs.declared.refusal.Kind.{Kind}
-use Rattle.answer.specs.Sentence.{Answer, is_rmc, is_gsa, is_gsv, is_gga, is_gll, is_vtg, is_other, is_refused, Sentence, rmc_type, gsa_type, gsv_type, gga_type, gll_type, vtg_type, other_type, formatter_of, answer, parse_as}
-use Rattle.answer.specs.Sentence as Spec
-use Rattle.sentence.specs.Answer.{formatter, rmc_sentence, gsa_sentence, gga_sentence, gll_sentence, vtg_sentence, record_of, Says}
-use Rattle.sentence.specs.declared.RmcRecord.{RmcRecord}
-use Rattle.sentence.specs.declared.GsaRecord.{GsaRecord}
-use Rattle.sentence.specs.declared.GgaRecord.{GgaRecord}
-use Rattle.sentence.specs.declared.GllRecord.{GllRecord}
-use Rattle.sentence.specs.declared.VtgRecord.{VtgRecord}
+use Rattle.frame.specs.declared.refusal.Refusal.{Refusal}
+use Rattle.answer.specs.Sentence.{OtherSentence, formatter_of, answer, parse_as}
+use Rattle.sentence.specs.Answer.{formatter, sentence, record_of, answer_of}
 use Rattle.sentence.specs.declared.Record.{Record}
-use Rattle.sentence.specs.declared.Record.TheVariants.{Rmc as ARmc, Gsa as AGsa, Gsv as AGsv, Gga as AGga, Gll as AGll, Vtg as AVtg, Other as AnOther, Refused as ARefusal}
-use Rattle.sentence.specs.declared.ParseResult.{ParseResult}
+use Rattle.sentence.specs.declared.Record.TheVariants.{Rmc as ARmc, Gsa as AGsa, Gsv as AGsv, Gga as AGga, Gll as AGll, Vtg as AVtg, Other as AnOther}
 use Rattle.sentence.specs.declared.Formatter.{Formatter}
 use Rattle.sentence.specs.declared.Formatter.TheVariants.{Rmc as TypeRmc, Gsa as TypeGsa, Gsv as TypeGsv, Gga as TypeGga, Gll as TypeGll, Vtg as TypeVtg, Other as TypeOther}
-use Rattle.only.proofs.Laws.{same, brought, undone}
-use Rattle.only.proofs.Frame.{talker-of, kind-of, refusal-of, refusal-is}
-use Rattle.only.proofs.Gsv.{gsv-record, gsv-record-is}
-use Rattle.only.proofs.Gsa.{head-of, head-is}
-use Rattle.only.proofs.Rmc.{rmc-of, rmc-is}
-use Rattle.only.proofs.Gga.{gga-of, gga-is}
-use Rattle.only.proofs.Gll.{gll-of, gll-is}
-use Rattle.only.proofs.Vtg.{vtg-of, vtg-is}
+use Rattle.only.proofs.Laws.{TellsApart, tells}
+use Rattle.only.proofs.Frame.{talker-apart, kind-apart, refusal-apart}
+use Rattle.only.proofs.Gsv.{gsv-record-apart}
+use Rattle.only.proofs.Gsa.{gsa-apart}
+use Rattle.only.proofs.Rmc.{rmc-apart}
+use Rattle.only.proofs.Gga.{gga-apart}
+use Rattle.only.proofs.Gll.{gll-apart}
+use Rattle.only.proofs.Vtg.{vtg-apart}
 
-rmc-record : Sentence Rmc → RmcRecord
-rmc-record x = record { talker = talker-of x.talker; «data» = rmc-of x.body }
+-- a talker, and data that are told apart
+message-apart : {T A : Type 0} {f : T → A} → TellsApart f → TellsApart (sentence f)
+message-apart u = record {
+  one = λ e i. record { talker = talker-apart.one (λ j. (e j).talker) i; «data» = u.one (λ j. (e j).body) i };
+}
 
-rmc-record-is : (x : RmcRecord) → rmc-record (rmc_sentence x) ≡ x
-unfolding rmc-record
-rmc-record-is x = λ i. record { talker = x.talker; «data» = rmc-is x.data i }
+record-one : (r q : Record) → record_of r ≡ record_of q → r ≡ q
+record-one (ARmc x) (ARmc y) e = ap ARmc ((message-apart rmc-apart).one cc)
+record-one (AGsa x) (AGsa y) e = ap AGsa ((message-apart gsa-apart).one cc)
+record-one (AGsv x) (AGsv y) e = ap AGsv (gsv-record-apart.one cc)
+record-one (AGga x) (AGga y) e = ap AGga ((message-apart gga-apart).one cc)
+record-one (AGll x) (AGll y) e = ap AGll ((message-apart gll-apart).one cc)
+record-one (AVtg x) (AVtg y) e = ap AVtg ((message-apart vtg-apart).one cc)
+record-one (AnOther t k) (AnOther u l) e =
+    let o : ◌≡◌ {A = OtherSentence} (record { talker = talker_bytes t; kind = letters k }) (record { talker = talker_bytes u; kind = letters l }) = cc in
+    λ i. AnOther (talker-apart.one (λ j. (o j).talker) i) (kind-apart.one (λ j. (o j).kind) i)
+record-one r q e = cc
 
-gsa-record : Sentence Gsa → GsaRecord
-gsa-record g = record { talker = talker-of g.talker; head = head-of g.body }
+-- a record is none of the refusals
+answer-one : (r q : Result Record Refusal) → answer_of r ≡ answer_of q → r ≡ q
+answer-one (Ok (ARmc x)) (Err y) e = cc
+answer-one (Err y) (Ok (ARmc x)) e = cc
+answer-one (Ok r) (Ok q) e = ap Ok (record-one r q e)
+answer-one (Err r) (Err q) e = ap Err (refusal-apart.one cc)
+answer-one r q e = cc
 
-gsa-record-is : (xs : List ℕ) (g : GsaRecord) → gsa-record (gsa_sentence xs g) ≡ g
-unfolding gsa-record
-gsa-record-is xs g = λ i. record { talker = g.talker; head = head-is xs g.head i }
+pub answer-apart : TellsApart answer_of
+answer-apart = record { one = λ {x} {y}. answer-one x y }
 
-gga-record : Sentence Gga → GgaRecord
-gga-record x = record { talker = talker-of x.talker; «data» = gga-of x.body }
+formatter-one : (r q : Formatter) → formatter r ≡ formatter q → r ≡ q
+formatter-one TypeRmc TypeRmc e = refl
+formatter-one TypeGsa TypeGsa e = refl
+formatter-one TypeGsv TypeGsv e = refl
+formatter-one TypeGga TypeGga e = refl
+formatter-one TypeGll TypeGll e = refl
+formatter-one TypeVtg TypeVtg e = refl
+formatter-one TypeOther TypeOther e = refl
+formatter-one r q e = cc
 
-gga-record-is : (x : GgaRecord) → gga-record (gga_sentence x) ≡ x
-unfolding gga-record
-gga-record-is x = λ i. record { talker = x.talker; «data» = gga-is x.data i }
-
-gll-record : Sentence Gll → GllRecord
-gll-record x = record { talker = talker-of x.talker; «data» = gll-of x.body }
-
-gll-record-is : (x : GllRecord) → gll-record (gll_sentence x) ≡ x
-unfolding gll-record
-gll-record-is x = λ i. record { talker = x.talker; «data» = gll-is x.data i }
-
-vtg-record : Sentence Vtg → VtgRecord
-vtg-record x = record { talker = talker-of x.talker; «data» = vtg-of x.body }
-
-vtg-record-is : (x : VtgRecord) → vtg-record (vtg_sentence x) ≡ x
-unfolding vtg-record
-vtg-record-is x = λ i. record { talker = x.talker; «data» = vtg-is x.data i }
-
-pub record-of : Answer → Record
-record-of (is_rmc x) = ARmc (rmc-record x)
-record-of (is_gsa g) = AGsa (gsa-record g)
-record-of (is_gsv g) = AGsv (gsv-record g)
-record-of (is_gga x) = AGga (gga-record x)
-record-of (is_gll x) = AGll (gll-record x)
-record-of (is_vtg x) = AVtg (vtg-record x)
-record-of (is_other o) = AnOther (record { talker = talker-of o.talker; kind = kind-of o.kind })
-record-of (is_refused r) = ARefusal (refusal-of r)
-
--- whatever satellites stand beside it
-pub record-is : (xs : List ℕ) (r : Record) → record-of (record_of xs r) ≡ r
-unfolding record-of
-record-is xs (ARmc x) = ap ARmc (rmc-record-is x)
-record-is xs (AGsa g) = ap AGsa (gsa-record-is xs g)
-record-is xs (AGsv g) = ap AGsv (gsv-record-is g)
-record-is xs (AGga x) = ap AGga (gga-record-is x)
-record-is xs (AGll x) = ap AGll (gll-record-is x)
-record-is xs (AVtg x) = ap AVtg (vtg-record-is x)
-record-is xs (AnOther o) = refl
-record-is xs (ARefusal r) = ap ARefusal (refusal-is r)
-
--- one answer alone says this, with the satellites beside it
-says-one : (a : Answer) {r q : ParseResult} → Says a r → Says a q → r ≡ q
-says-one a {r} {q} x y =
-    let said =
-    brought record-of (same x.says y.says) (record-is (take r.count r.satellites) r.answer)
-    (record-is (take q.count q.satellites) q.answer) in
-    let cells = same x.beside.cells_are y.beside.cells_are in
-    let count = same x.beside.count-is y.beside.count-is in
-    λ i. record { answer = said i; satellites = cells i; count = count i }
-
-formatter-back : Spec.Formatter → Formatter
-formatter-back rmc_type = TypeRmc
-formatter-back gsa_type = TypeGsa
-formatter-back gsv_type = TypeGsv
-formatter-back gga_type = TypeGga
-formatter-back gll_type = TypeGll
-formatter-back vtg_type = TypeVtg
-formatter-back other_type = TypeOther
-
-formatter-is : (r : Formatter) → formatter-back (formatter r) ≡ r
-unfolding formatter-back
-formatter-is TypeRmc = refl
-formatter-is TypeGsa = refl
-formatter-is TypeGsv = refl
-formatter-is TypeGga = refl
-formatter-is TypeGll = refl
-formatter-is TypeVtg = refl
-formatter-is TypeOther = refl
+formatter-apart : TellsApart formatter
+formatter-apart = record { one = λ {x} {y}. formatter-one x y }
 
 pub formatter-of : (kind : Kind) {r q : Formatter} → formatter r ≡ formatter_of (letters kind) → formatter q ≡ formatter_of (letters kind) → r ≡ q
-formatter-of kind x y = undone formatter formatter-back formatter-is (same x y)
+formatter-of kind = tells formatter-apart
 
-pub parse-bytes : (line : List ℕ) {r q : ParseResult} → Says (answer line) r → Says (answer line) q → r ≡ q
-parse-bytes line = says-one (answer line)
+pub parse-bytes : (line : List ℕ) {r q : Result Record Refusal} → answer_of r ≡ answer line → answer_of q ≡ answer line → r ≡ q
+parse-bytes line = tells answer-apart
 
-pub parse-rmc : (line : List ℕ) {r q : ParseResult} → Says (parse_as (bytes "RMC") line) r → Says (parse_as (bytes "RMC") line) q → r ≡ q
-parse-rmc line = says-one (parse_as (bytes "RMC") line)
+pub parse-rmc : (line : List ℕ) {r q : Result Record Refusal} → answer_of r ≡ parse_as (bytes "RMC") line → answer_of q ≡ parse_as (bytes "RMC") line → r ≡ q
+parse-rmc line = tells answer-apart
 
-pub parse-gsa : (line : List ℕ) {r q : ParseResult} → Says (parse_as (bytes "GSA") line) r → Says (parse_as (bytes "GSA") line) q → r ≡ q
-parse-gsa line = says-one (parse_as (bytes "GSA") line)
+pub parse-gsa : (line : List ℕ) {r q : Result Record Refusal} → answer_of r ≡ parse_as (bytes "GSA") line → answer_of q ≡ parse_as (bytes "GSA") line → r ≡ q
+parse-gsa line = tells answer-apart
 
-pub parse-gsv : (line : List ℕ) {r q : ParseResult} → Says (parse_as (bytes "GSV") line) r → Says (parse_as (bytes "GSV") line) q → r ≡ q
-parse-gsv line = says-one (parse_as (bytes "GSV") line)
+pub parse-gsv : (line : List ℕ) {r q : Result Record Refusal} → answer_of r ≡ parse_as (bytes "GSV") line → answer_of q ≡ parse_as (bytes "GSV") line → r ≡ q
+parse-gsv line = tells answer-apart
 
-pub parse-gga : (line : List ℕ) {r q : ParseResult} → Says (parse_as (bytes "GGA") line) r → Says (parse_as (bytes "GGA") line) q → r ≡ q
-parse-gga line = says-one (parse_as (bytes "GGA") line)
+pub parse-gga : (line : List ℕ) {r q : Result Record Refusal} → answer_of r ≡ parse_as (bytes "GGA") line → answer_of q ≡ parse_as (bytes "GGA") line → r ≡ q
+parse-gga line = tells answer-apart
 
-pub parse-gll : (line : List ℕ) {r q : ParseResult} → Says (parse_as (bytes "GLL") line) r → Says (parse_as (bytes "GLL") line) q → r ≡ q
-parse-gll line = says-one (parse_as (bytes "GLL") line)
+pub parse-gll : (line : List ℕ) {r q : Result Record Refusal} → answer_of r ≡ parse_as (bytes "GLL") line → answer_of q ≡ parse_as (bytes "GLL") line → r ≡ q
+parse-gll line = tells answer-apart
 
-pub parse-vtg : (line : List ℕ) {r q : ParseResult} → Says (parse_as (bytes "VTG") line) r → Says (parse_as (bytes "VTG") line) q → r ≡ q
-parse-vtg line = says-one (parse_as (bytes "VTG") line)
+pub parse-vtg : (line : List ℕ) {r q : Result Record Refusal} → answer_of r ≡ parse_as (bytes "VTG") line → answer_of q ≡ parse_as (bytes "VTG") line → r ≡ q
+parse-vtg line = tells answer-apart

@@ -1,12 +1,12 @@
 -- No second answer of `utf8`. Assumes nothing.
 use Rattle.std.proofs.Common.{◌≡◌, ℕ, Bool, cond, eqb, List, [], ◌∷◌, refl}
-use mathlib.Core.Option.{none, some}
+use Rattle.std.proofs.Math.Option.{none, some}
 use Rattle.utf8.specs.Utf8.{State, utf8, ascii}
 use Rattle.utf8.specs.Utf8 as Spec
 use Rattle.utf8.specs.Answer.{pending}
 use Rattle.utf8.specs.declared.Utf8.{Utf8}
 use Rattle.utf8.specs.declared.Utf8.TheVariants.{Whole, Broken, Tail1, Tail2, Tail3, AfterE0, AfterED, AfterF0, AfterF4}
-use Rattle.only.proofs.Laws.{same, undone}
+use Rattle.only.proofs.Laws.{same, TellsApart, undone, tells}
 
 -- how many octets must follow tells the states apart, and then the range of the next
 state-of : State → Utf8
@@ -28,8 +28,11 @@ state-is AfterED = refl
 state-is AfterF0 = refl
 state-is AfterF4 = refl
 
+pending-apart : TellsApart pending
+pending-apart = undone state-of state-is
+
 pub step : (state : Utf8) (b : ℕ) {r q : Utf8} → pending r ≡ Spec.step (pending state) b → pending q ≡ Spec.step (pending state) b → r ≡ q
-step state b x y = undone pending state-of state-is (same x y)
+step state b = tells pending-apart
 
 pub whole : (state : Utf8) {r q : Bool} → r ≡ Spec.may_end (pending state) → q ≡ Spec.may_end (pending state) → r ≡ q
 whole state = same

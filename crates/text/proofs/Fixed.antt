@@ -1,17 +1,20 @@
--- Numbers of two and three bytes, byte by byte.
+-- Numbers of so many bytes, byte by byte.
 use Prim.Native.Nat.{ℕ, ◌+◌, ◌-◌, ◌*◌, ◌≤◌, ◌<◌}
+use native.Mathlib.Numerals.{add-one}
 use native.Mathlib.Omega.{arith}
 use mathlib.Core.Path.{◌≡◌, refl, ap, sym, ◌∙◌}
 use mathlib.Core.Bool.{Bool, true, false, cond, ◌&&◌}
-use mathlib.Core.List.{List, [], ◌∷◌, ◌++◌}
+use mathlib.Core.List.{List, [], ◌∷◌}
 use mathlib.Core.Option.{Option, none, some}
-use lib.ListN.{length, take, drop, get_or, length-drop}
+use lib.ListN.{length, take, drop, get_or, length-drop, length-take}
+use lib.Seq.{slice, slice-cons, drop-drop}
+use Rattle.std.proofs.lemmas.List.{drop-take}
 use lib.Dec.{leb, ltb, eqb}
 use borrow.Author.Tests.{le-leb, lt-leb, leb-true, ltb-true, ltb-false, lt-ltb, le-ltb, eq-eqb, ne_eqb}
 use Rattle.text.specs.Bytes.{byte}
 use Rattle.text.specs.Reader.{Parse, miss, got}
-use Rattle.text.specs.Number.{is_digit, leading_digits, after_digits, value_from, fixed, two_bytes, three_bytes, unsigned, up_to, written}
-use Rattle.text.proofs.Places.{here}
+use Rattle.text.specs.Number.{is_digit, leading_digits, after_digits, value_from, fixed, unsigned, up_to, written}
+use Rattle.text.proofs.Places.{ended}
 use Rattle.text.specs.Code.{unit}
 
 pub digit-top : (b : ℕ) → is_digit b ≡ true → b ≤ 57
@@ -55,127 +58,103 @@ unit-is b e = by (leb 48 b) (leb b 57) refl e
     by true u f e = unit-high b (leb-true 48 b f)
     by false u f e = let z : ◌≡◌ {A = ℕ} 0 1 = cc in absurd (omega arith)
 
--- what a first byte counts: `+` in front counts nothing
-abbrev lead_unit : ℕ → ℕ
-lead_unit b = cond (eqb b (byte "+")) 0 (unit b)
+-- the digits of a text as a number that goes on from `v`; none where a byte is no digit
+abbrev pub go_on : ℕ → List ℕ → Option ℕ
+go_on v [] = some v
+go_on v (b ∷ l) = cond (is_digit b) (go_on (v * 10 + (b - byte "0")) l) none
 
--- a first byte that counts `a`
+-- where the text is digits alone, that number is what they write
+go-value : (v : ℕ) (l : List ℕ) → go_on v l ≡ cond (eqb (length (after_digits l)) 0) (some (value_from v l)) none
+go-value v [] = refl
+go-value v (b ∷ l) = by (is_digit b) (go-value (v * 10 + (b - 48)) l)
+  where
+    w : ℕ
+    w = v * 10 + (b - 48)
+
+    by : (t : Bool) → go_on w l ≡ cond (eqb (length (after_digits l)) 0) (some (value_from w l)) none
+        → cond t (go_on w l) none ≡ cond (eqb (length (cond t (after_digits l) (b ∷ l))) 0) (some (value_from w l)) none
+    by true h = h
+    by false h = rw (ne_eqb (length (b ∷ l)) 0 (λ e. omega arith))
+
+-- so Rust reads one or more digits as reading them on from nothing does
+go-written : (l : List ℕ) → 0 < length l → written l ≡ go_on 0 l
+go-written [] h = absurd (omega arith)
+go-written (b ∷ l) h = by (is_digit b) (go-value (0 * 10 + (b - 48)) l)
+  where
+    w : ℕ
+    w = 0 * 10 + (b - 48)
+
+    by : (t : Bool) → go_on w l ≡ cond (eqb (length (after_digits l)) 0) (some (value_from w l)) none
+        → cond (ltb 0 (length (cond t (b ∷ leading_digits l) [])) && eqb (length (cond t (after_digits l) (b ∷ l))) 0) (some (value_from w l)) none
+        ≡ cond t (go_on w l) none
+    by true h =
+        let k : 0 < length (b ∷ leading_digits l) = omega arith in
+        rw (lt-ltb _ _ k) (sym h)
+    by false h = refl
+
+-- a first byte that counts `a`: the digits behind it are read on from there
 pub record Lead (b a : ℕ) : Type 0 where
-  pub counts : a ≡ lead_unit b
+  pub reads : (l : List ℕ) → 0 < length l → unsigned (b ∷ l) ≡ go_on a l
   pub small : a ≤ 9
 
 pub plus-leads : (b : ℕ) {a : ℕ} → b ≡ byte "+" → a ≡ 0 → Lead b a
-plus-leads b e f = record { counts = rw (eq-eqb b (byte "+") e) f; small = omega arith }
+plus-leads b e f = record { reads = λ l h. rw (eq-eqb b (byte "+") e, f) (go-written l h); small = omega arith }
 
--- `+` is no digit, so a digit counts what it does elsewhere
 pub digit-leads : (b : ℕ) {u a : ℕ} → u ≡ unit b → u ≤ 9 → a ≡ u → Lead b a
-digit-leads b {u} {a} e h f = record { counts = rw (ne_eqb b (byte "+") no-plus) (f ∙ e); small = omega arith }
+digit-leads b {u} {a} e h f = record { reads = reads; small = omega arith }
   where
+    -- `+` is no digit
     no-plus : b ≡ byte "+" → ⊥
     no-plus g = omega (arith, unit-low b (omega arith))
 
-pub none-leads : (b : ℕ) {u : ℕ} → u ≡ unit b → 9 < u → (b ≡ byte "+" → ⊥) → 9 < lead_unit b
-none-leads b e h n = rw (ne_eqb b (byte "+") n) (omega arith)
+    digit : is_digit b ≡ true
+    digit = unit-digit b (omega arith)
 
-two-of : (a b : ℕ) (l : List ℕ) → two_bytes (a ∷ b ∷ l) ≡ up_to 255 (unsigned (a ∷ b ∷ [])) l
-unfolding fixed
-two-of a b l =
-    let h : 2 ≤ length (a ∷ b ∷ l) = omega arith in
-    rw (le-leb _ _ h)
+    counts : 0 * 10 + (b - 48) ≡ a
+    counts = omega (arith, unit-is b digit)
 
-three-of : (a b c : ℕ) (l : List ℕ) → three_bytes (a ∷ b ∷ c ∷ l) ≡ up_to 255 (unsigned (a ∷ b ∷ c ∷ [])) l
-unfolding fixed
-three-of a b c l =
-    let h : 3 ≤ length (a ∷ b ∷ c ∷ l) = omega arith in
-    rw (le-leb _ _ h)
+    on : (l : List ℕ) → go_on 0 (b ∷ l) ≡ go_on a l
+    on l = rw digit (ap (λ (v : ℕ). go_on v l) counts)
 
--- a byte that is no digit
-stuck : (ds : List ℕ) (b : ℕ) (l : List ℕ) → is_digit b ≡ false → 0 < length (after_digits (ds ++ (b ∷ l)))
-stuck [] b l e = rw e (omega arith)
-stuck (a ∷ ds) b l e = by (is_digit a) (stuck ds b l e)
+    reads : (l : List ℕ) → 0 < length l → unsigned (b ∷ l) ≡ go_on a l
+    reads l k = rw (ne_eqb b (byte "+") no-plus) (go-written (b ∷ l) (omega arith) ∙ on l)
+
+none-leads : (b : ℕ) (l : List ℕ) → 9 < unit b → (b ≡ byte "+" → ⊥) → unsigned (b ∷ l) ≡ none
+none-leads b l h n = rw (ne_eqb b (byte "+") n) (go-written (b ∷ l) (omega arith) ∙ none-on)
   where
-    by : (t : Bool) → 0 < length (after_digits (ds ++ (b ∷ l)))
-        → 0 < length (cond t (after_digits (ds ++ (b ∷ l))) (a ∷ (ds ++ (b ∷ l))))
-    by true h = h
-    by false h = omega arith
+    none-on : go_on 0 (b ∷ l) ≡ none
+    none-on = rw (unit-none b h)
 
-pub not-written : (ds : List ℕ) (b : ℕ) (l : List ℕ) → is_digit b ≡ false → written (ds ++ (b ∷ l)) ≡ none
-not-written ds b l e = by (ltb 0 (length (leading_digits (ds ++ (b ∷ l))))) (eqb (length (after_digits (ds ++ (b ∷ l)))) 0) (ne_eqb _ _ ne)
+-- more digits write no smaller number, so none that follow bring it back to 255
+pub go-over : (v : ℕ) (l m : List ℕ) → 255 < v → up_to 255 (go_on v l) m ≡ miss
+go-over v [] m h = rw (lt-leb v 255 h)
+go-over v (b ∷ l) m h = by (is_digit b) (go-over (v * 10 + (b - 48)) l m (omega arith))
   where
-    ne : length (after_digits (ds ++ (b ∷ l))) ≡ 0 → ⊥
-    ne z = let h = stuck ds b l e in omega arith
+    by : (t : Bool) → up_to 255 (go_on (v * 10 + (b - 48)) l) m ≡ miss → up_to 255 (cond t (go_on (v * 10 + (b - 48)) l) none) m ≡ miss
+    by true g = g
+    by false g = refl
 
-    by : (t u : Bool) → u ≡ false → cond {A = Option ℕ} (t && u) (some (value_from 0 (ds ++ (b ∷ l)))) none ≡ none
-    by true u h = rw h
-    by false u h = refl
+-- the bytes of a text up to the place `e`, from the place `i` on
+module _ (s : List ℕ) (e i : ℕ) where
+  part-here : i < e → e ≤ length s → slice i e s ≡ get_or s i 0 ∷ slice (i + 1) e s
+  part-here h k = rw add-one (slice-cons i e s 0 h k)
 
-up-none : (o : Option ℕ) (l : List ℕ) → o ≡ none → up_to 255 o l ≡ miss
-up-none o l e = rw e
+  module _ (h : i < e) {d : ℕ} (f : d ≡ unit (get_or s i 0)) (v : ℕ) where
+    pub go-digit : d ≤ 9 → e ≤ length s → go_on v (slice i e s) ≡ go_on (v * 10 + d) (slice (i + 1) e s)
+    go-digit j k =
+        let t : is_digit (get_or s i 0) ≡ true = unit-digit (get_or s i 0) (omega arith) in
+        let z : get_or s i 0 - 48 ≡ d = omega (arith, unit-is (get_or s i 0) t) in
+        rw (part-here h k, t) (ap (λ (x : ℕ). go_on (v * 10 + x) (slice (i + 1) e s)) z)
 
-up-some : {v : ℕ} (o : Option ℕ) (l : List ℕ) → o ≡ some v → v ≤ 255 → up_to 255 o l ≡ got v l
-up-some {v} o l e h = rw (e, le-leb v 255 h)
+    pub go-none : 9 < d → e ≤ length s → go_on v (slice i e s) ≡ none
+    go-none j k =
+        let t : is_digit (get_or s i 0) ≡ false = unit-none (get_or s i 0) (omega arith) in
+        rw (part-here h k, t)
 
-up-over : {v : ℕ} (o : Option ℕ) (l : List ℕ) → o ≡ some v → 255 < v → up_to 255 o l ≡ miss
-up-over {v} o l e h = rw (e, lt-leb v 255 h)
-
-written1 : (b : ℕ) → is_digit b ≡ true → written (b ∷ []) ≡ some (0 * 10 + (b - 48))
-written1 b f = rw f
-
-written2 : (a b : ℕ) → is_digit a ≡ true → is_digit b ≡ true → written (a ∷ b ∷ []) ≡ some ((0 * 10 + (a - 48)) * 10 + (b - 48))
-written2 a b e f = rw (e, f)
-
-written3 : (a b c : ℕ) → is_digit a ≡ true → is_digit b ≡ true → is_digit c ≡ true → written (a ∷ b ∷ c ∷ []) ≡ some (((0 * 10 + (a - 48)) * 10 + (b - 48)) * 10 + (c - 48))
-written3 a b c e f g = rw (e, f, g)
-
--- the number that units write
-units2 : (a b : ℕ) → lead_unit a ≤ 9 → unit b ≤ 9 → unsigned (a ∷ b ∷ []) ≡ some (lead_unit a * 10 + unit b)
-units2 a b h k = by (eqb a 43) h
-  where
-    f : is_digit b ≡ true
-    f = unit-digit b k
-
-    by : (t : Bool) → cond t 0 (unit a) ≤ 9
-        → cond t (written (b ∷ [])) (written (a ∷ b ∷ [])) ≡ some (cond t 0 (unit a) * 10 + unit b)
-    by true h = written1 b f ∙ ap (λ (x : ℕ). some (0 * 10 + x)) (sym (unit-is b f))
-    by false h =
-        let e = unit-digit a h in
-        let z : 0 * 10 + (a - 48) ≡ unit a = omega (arith, unit-is a e) in
-        written2 a b e f ∙ ap (λ (x : ℕ). some (x * 10 + (b - 48))) z ∙ ap (λ (x : ℕ). some (unit a * 10 + x)) (sym (unit-is b f))
-
-units3 : (a b c : ℕ) → lead_unit a ≤ 9 → unit b ≤ 9 → unit c ≤ 9 → unsigned (a ∷ b ∷ c ∷ []) ≡ some ((lead_unit a * 10 + unit b) * 10 + unit c)
-units3 a b c h k j = by (eqb a 43) h
-  where
-    f : is_digit b ≡ true
-    f = unit-digit b k
-
-    g : is_digit c ≡ true
-    g = unit-digit c j
-
-    by : (t : Bool) → cond t 0 (unit a) ≤ 9
-        → cond t (written (b ∷ c ∷ [])) (written (a ∷ b ∷ c ∷ [])) ≡ some ((cond t 0 (unit a) * 10 + unit b) * 10 + unit c)
-    by true h = written2 b c f g ∙ ap (λ (x : ℕ). some ((0 * 10 + x) * 10 + (c - 48))) (sym (unit-is b f)) ∙ ap (λ (x : ℕ). some ((0 * 10 + unit b) * 10 + x)) (sym (unit-is c g))
-    by false h =
-        let e = unit-digit a h in
-        let z : 0 * 10 + (a - 48) ≡ unit a = omega (arith, unit-is a e) in
-        written3 a b c e f g
-        ∙ ap (λ (x : ℕ). some ((x * 10 + (b - 48)) * 10 + (c - 48))) z
-        ∙ ap (λ (x : ℕ). some ((unit a * 10 + x) * 10 + (c - 48))) (sym (unit-is b f))
-        ∙ ap (λ (x : ℕ). some ((unit a * 10 + unit b) * 10 + x)) (sym (unit-is c g))
-
--- a first byte that is neither a digit nor `+`, and a later one that is no digit
-lead-none : (a b : ℕ) (l : List ℕ) → 9 < lead_unit a → unsigned (a ∷ b ∷ l) ≡ none
-lead-none a b l h = by (eqb a 43) h
-  where
-    by : (t : Bool) → 9 < cond t 0 (unit a) → cond t (written (b ∷ l)) (written (a ∷ b ∷ l)) ≡ none
-    by true h = absurd (omega arith)
-    by false h = not-written [] a (b ∷ l) (unit-none a h)
-
-later-none : (a : ℕ) (ds : List ℕ) (b : ℕ) (l : List ℕ) → 9 < unit b → unsigned (a ∷ (ds ++ (b ∷ l))) ≡ none
-later-none a ds b l h = by (eqb a 43)
-  where
-    by : (t : Bool) → cond t (written (ds ++ (b ∷ l))) (written (a ∷ (ds ++ (b ∷ l)))) ≡ none
-    by true = not-written ds b l (unit-none b h)
-    by false = not-written (a ∷ ds) b l (unit-none b h)
+  pub go-end : (v : ℕ) → e ≤ i → go_on v (slice i e s) ≡ some v
+  go-end v h =
+      let w : length (take e s) ≤ i = simp length-take (omega arith) in
+      rw (ended (take e s) i w)
 
 pub fixed-short : (n : ℕ) (s : List ℕ) (at : ℕ) → length s - at < n → fixed n 255 (drop at s) ≡ miss
 unfolding fixed
@@ -183,77 +162,22 @@ fixed-short n s at h =
     let k : length (drop at s) < n = simp length-drop h in
     rw (lt-leb _ _ k)
 
--- at a place of a text
-module _ (s : List ℕ) (at : ℕ) where
-  pub two-here : 2 + at ≤ length s → two_bytes (drop at s) ≡ up_to 255 (unsigned (get_or s at 0 ∷ get_or s (at + 1) 0 ∷ [])) (drop (at + 2) s)
-  two-here h =
-      let e : at + 1 + 1 ≡ at + 2 = omega arith in
-      ap two_bytes (here s at (omega arith) ∙ ap (λ (l : List ℕ). get_or s at 0 ∷ l) (here s (at + 1) (omega arith))) ∙ two-of _ _ _
-      ∙ ap (λ (i : ℕ). up_to 255 (unsigned (get_or s at 0 ∷ get_or s (at + 1) 0 ∷ [])) (drop i s)) e
+-- the next `n` bytes at a place of a text
+module _ (n : ℕ) (s : List ℕ) (at : ℕ) (h : n ≤ length s) (k : at ≤ length s - n) (two : 2 ≤ n) where
+  fixed-here : fixed n 255 (drop at s) ≡ up_to 255 (unsigned (get_or s at 0 ∷ slice (at + 1) (at + n) s)) (drop (at + n) s)
+  unfolding fixed
+  fixed-here =
+      let w : n ≤ length (drop at s) = simp length-drop (omega arith) in
+      rw (le-leb _ _ w, ← drop-take at n s, part-here s (at + n) at (omega arith) (omega arith), drop-drop n at s)
 
-  pub three-here : 3 + at ≤ length s → three_bytes (drop at s) ≡ up_to 255 (unsigned (get_or s at 0 ∷ get_or s (at + 1) 0 ∷ get_or s (at + 2) 0 ∷ [])) (drop (at + 3) s)
-  three-here h =
-      let e : at + 1 + 1 ≡ at + 2 = omega arith in
-      let e' : at + 2 + 1 ≡ at + 3 = omega arith in
-      ap three_bytes (here s at (omega arith) ∙ ap (λ (l : List ℕ). get_or s at 0 ∷ l) (here s (at + 1) (omega arith) ∙ ap (λ (l : List ℕ). get_or s (at + 1) 0 ∷ l) (ap (λ (i : ℕ). drop i s) e ∙ here s (at + 2) (omega arith)))) ∙ three-of _ _ _ _
-      ∙ ap (λ (i : ℕ). up_to 255 (unsigned (get_or s at 0 ∷ get_or s (at + 1) 0 ∷ get_or s (at + 2) 0 ∷ [])) (drop i s)) e'
+  pub fixed-lead : {a : ℕ} → Lead (get_or s at 0) a → fixed n 255 (drop at s) ≡ up_to 255 (go_on a (slice (at + 1) (at + n) s)) (drop (at + n) s)
+  fixed-lead l =
+      let w : 0 < length (slice (at + 1) (at + n) s) = simp (length-drop, length-take) (omega arith) in
+      fixed-here ∙ rw (l.reads (slice (at + 1) (at + n) s) w)
 
-  pub two-got : 2 + at ≤ length s → lead_unit (get_or s at 0) ≤ 9 → unit (get_or s (at + 1) 0) ≤ 9
-      → two_bytes (drop at s) ≡ got (lead_unit (get_or s at 0) * 10 + unit (get_or s (at + 1) 0)) (drop (at + 2) s)
-  two-got h k j = two-here h ∙ up-some _ _ (units2 (get_or s at 0) (get_or s (at + 1) 0) k j) (omega arith)
-
-  pub two-lead : 2 + at ≤ length s → 9 < lead_unit (get_or s at 0) → two_bytes (drop at s) ≡ miss
-  two-lead h k = two-here h ∙ up-none _ _ (lead-none (get_or s at 0) (get_or s (at + 1) 0) [] k)
-
-  pub two-later : 2 + at ≤ length s → 9 < unit (get_or s (at + 1) 0) → two_bytes (drop at s) ≡ miss
-  two-later h k = two-here h ∙ up-none _ _ (later-none (get_or s at 0) [] (get_or s (at + 1) 0) [] k)
-
-  pub three-got : 3 + at ≤ length s → lead_unit (get_or s at 0) ≤ 9 → unit (get_or s (at + 1) 0) ≤ 9 → unit (get_or s (at + 2) 0) ≤ 9
-      → (lead_unit (get_or s at 0) * 10 + unit (get_or s (at + 1) 0)) * 10 + unit (get_or s (at + 2) 0) ≤ 255
-      → three_bytes (drop at s) ≡ got ((lead_unit (get_or s at 0) * 10 + unit (get_or s (at + 1) 0)) * 10 + unit (get_or s (at + 2) 0)) (drop (at + 3) s)
-  three-got h k j i m = three-here h ∙ up-some _ _ (units3 (get_or s at 0) (get_or s (at + 1) 0) (get_or s (at + 2) 0) k j i) m
-
-  pub three-over : 3 + at ≤ length s → lead_unit (get_or s at 0) ≤ 9 → unit (get_or s (at + 1) 0) ≤ 9 → unit (get_or s (at + 2) 0) ≤ 9
-      → 255 < (lead_unit (get_or s at 0) * 10 + unit (get_or s (at + 1) 0)) * 10 + unit (get_or s (at + 2) 0)
-      → three_bytes (drop at s) ≡ miss
-  three-over h k j i m = three-here h ∙ up-over _ _ (units3 (get_or s at 0) (get_or s (at + 1) 0) (get_or s (at + 2) 0) k j i) m
-
-  pub three-lead : 3 + at ≤ length s → 9 < lead_unit (get_or s at 0) → three_bytes (drop at s) ≡ miss
-  three-lead h k = three-here h ∙ up-none _ _ (lead-none (get_or s at 0) (get_or s (at + 1) 0) (get_or s (at + 2) 0 ∷ []) k)
-
-  pub three-second : 3 + at ≤ length s → 9 < unit (get_or s (at + 1) 0) → three_bytes (drop at s) ≡ miss
-  three-second h k = three-here h ∙ up-none _ _ (later-none (get_or s at 0) [] (get_or s (at + 1) 0) (get_or s (at + 2) 0 ∷ []) k)
-
-  pub three-third : 3 + at ≤ length s → 9 < unit (get_or s (at + 2) 0) → three_bytes (drop at s) ≡ miss
-  three-third h k = three-here h ∙ up-none _ _ (later-none (get_or s at 0) (get_or s (at + 1) 0 ∷ []) (get_or s (at + 2) 0) [] k)
-
-  pub two-read : {x y : ℕ} → x ≡ lead_unit (get_or s at 0) → y ≡ unit (get_or s (at + 1) 0) → 2 + at ≤ length s → x ≤ 9 → y ≤ 9
-      → two_bytes (drop at s) ≡ got (x * 10 + y) (drop (at + 2) s)
-  two-read {x} {y} p q h k j =
-      two-got h (rw p at k) (rw q at j)
-      ∙ ap (λ (z : ℕ). got (z * 10 + unit (get_or s (at + 1) 0)) (drop (at + 2) s)) (sym p)
-      ∙ ap (λ (z : ℕ). got (x * 10 + z) (drop (at + 2) s)) (sym q)
-
-  -- the number that three units write
-  three-number : {x y z : ℕ} → x ≡ lead_unit (get_or s at 0) → y ≡ unit (get_or s (at + 1) 0) → z ≡ unit (get_or s (at + 2) 0)
-      → (lead_unit (get_or s at 0) * 10 + unit (get_or s (at + 1) 0)) * 10 + unit (get_or s (at + 2) 0) ≡ (x * 10 + y) * 10 + z
-  three-number {x} {y} {z} p q r =
-      ap (λ (u : ℕ). (u * 10 + unit (get_or s (at + 1) 0)) * 10 + unit (get_or s (at + 2) 0)) (sym p)
-      ∙ ap (λ (u : ℕ). (x * 10 + u) * 10 + unit (get_or s (at + 2) 0)) (sym q)
-      ∙ ap (λ (u : ℕ). (x * 10 + y) * 10 + u) (sym r)
-
-  pub three-read : {x y z : ℕ} → x ≡ lead_unit (get_or s at 0) → y ≡ unit (get_or s (at + 1) 0) → z ≡ unit (get_or s (at + 2) 0) → 3 + at ≤ length s
-      → x ≤ 9 → y ≤ 9 → z ≤ 9 → (x * 10 + y) * 10 + z ≤ 255
-      → three_bytes (drop at s) ≡ got ((x * 10 + y) * 10 + z) (drop (at + 3) s)
-  three-read {x} {y} {z} p q r h k j i m =
-      let e = three-number p q r in
-      three-got h (rw p at k) (rw q at j) (rw r at i) (rw (← e) at m) ∙ ap (λ (u : ℕ). got u (drop (at + 3) s)) e
-
-  pub three-big : {x y z : ℕ} → x ≡ lead_unit (get_or s at 0) → y ≡ unit (get_or s (at + 1) 0) → z ≡ unit (get_or s (at + 2) 0) → 3 + at ≤ length s
-      → x ≤ 9 → y ≤ 9 → z ≤ 9 → 255 < (x * 10 + y) * 10 + z → three_bytes (drop at s) ≡ miss
-  three-big {x} {y} {z} p q r h k j i m =
-      let e = three-number p q r in
-      three-over h (rw p at k) (rw q at j) (rw r at i) (rw (← e) at m)
+  pub fixed-none : {u : ℕ} → u ≡ unit (get_or s at 0) → 9 < u → (get_or s at 0 ≡ byte "+" → ⊥) → fixed n 255 (drop at s) ≡ miss
+  fixed-none e g m =
+      fixed-here ∙ rw (none-leads (get_or s at 0) (slice (at + 1) (at + n) s) (omega arith) m)
 
 -- what is read is at most 255
 pub fixed-limit : (n : ℕ) (l : List ℕ) {v : ℕ} {m : List ℕ} → fixed n 255 l ≡ got v m → v ≤ 255

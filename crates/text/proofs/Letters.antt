@@ -1,10 +1,12 @@
 -- A letter at a place: by the byte that stands there, and by the letters one after another. Assumes nothing.
 use Prim.Native.Nat.{ℕ, ◌+◌, ◌≤◌, ◌<◌}
-use mathlib.Core.Path.{◌≡◌, sym}
-use mathlib.Core.Bool.{true, false}
-use mathlib.Core.List.{List}
+use mathlib.Core.Path.{◌≡◌, refl, sym}
+use mathlib.Core.Bool.{Bool, true, false, cond, ◌||◌}
+use mathlib.Core.List.{List, [], ◌∷◌}
+use lib.Dec.{eqb}
 use lib.ListN.{length, drop, get_or}
-use borrow.Author.Tests.{eq-eqb, ne_eqb}
+use Rattle.std.specs.List.{list_any}
+use borrow.Author.Tests.{eqb-true, eqb-false, eq-eqb, ne_eqb}
 use Rattle.text.specs.Reader.{miss, got, one_of, among, letter_of}
 use Rattle.text.proofs.Places.{here, ended}
 
@@ -51,3 +53,17 @@ module _ (letters s : List ℕ) (i : ℕ) where
   pub among-miss : i < length s → among (get_or s i 0) letters ≡ false → letter_of letters (drop i s) ≡ miss
   unfolding letter_of
   among-miss h e = rw (here s i h, e)
+
+-- the library's test of a list, which asks the letters and not the byte
+among-cons : (b c : ℕ) (cs : List ℕ) → among b (c ∷ cs) ≡ (eqb c b || among b cs)
+unfolding among
+among-cons b c cs = by (eqb c b) refl
+  where
+    by : (t : Bool) → eqb c b ≡ t → cond (eqb b c) true (among b cs) ≡ (t || among b cs)
+    by true e = rw (eq-eqb b c (sym (eqb-true c b e)))
+    by false e = rw (ne_eqb b c (λ f. eqb-false c b e (sym f)))
+
+pub among-any : (b : ℕ) (letters : List ℕ) → list_any (λ y. eqb y b) letters ≡ among b letters
+unfolding among
+among-any b [] = refl
+among-any b (c ∷ cs) = rw (among-cons b c cs, among-any b cs)

@@ -1,7 +1,7 @@
 pub mod Binds
 pub mod Runs
 pub mod Places
-pub mod Steps
+pub mod Finding
 pub mod Letters
 pub mod Digits
 pub mod Parts

@@ -8,6 +8,9 @@ use mathlib.Core.List.{List, [], ◌∷◌}
 use mathlib.Core.Option.{Option, none, some}
 use lib.ListN.{length, drop, get_or, length-drop, drop_of_length-le}
 use lib.Seq.{drop-cons}
+use lib.Dec.{ltb}
+use borrow.Author.Tests.{ltb-false}
+use Rattle.std.specs.Prelude.{Option as Found, None, is_some}
 use Rattle.text.specs.Reader.{Fault, miss, refuse, got, Reader, ◌>>=◌, pure, opt, alt, or_miss}
 use Rattle.text.specs.Placed.{Placed, unread, refused, upto, placed, Reads}
 
@@ -119,3 +122,7 @@ miss-none e = no-read (rw e)
 pub miss-some : {A : Type 0} {s : List ℕ} {p : ℕ} {a : A} {o : Option A} → o ≡ some a → Reads s p (or_miss o) (upto a p)
 unfolding or_miss
 miss-some e = a-read (rw e) (omega arith) (omega arith)
+
+-- what `get` does not find
+pub not-there : {T : Type 0} (s : List ℕ) (at : ℕ) (o : Found T) → is_some o ≡ ltb at (length s) → o ≡ None → length s ≤ at
+not-there s at o a b = ltb-false _ _ (sym a ∙ ap is_some b)

@@ -2,171 +2,103 @@
 // Each reader takes the whole text and a place in it, and answers the next place; past the end nothing stands.
 #![tactic(auto)]
 
-ghost use Rattle.std.specs.Prelude.{◌≡◌};
-ghost use Rattle.text.specs.Reader.{char, one_of, among, letter_of, opt, until};
-ghost use Rattle.text.specs.Placed.{Reads};
-ghost use Rattle.text.specs.Number.{number, two_bytes, three_bytes};
+ghost use Rattle.std.specs.Prelude.{◌≡◌, ◌≤◌};
+ghost use Rattle.text.specs.Reader.{char, one_of, letter_of, opt, until};
+ghost use Rattle.text.specs.Number.{number, fixed, two_bytes, three_bytes};
 ghost use Rattle.text.specs.Code.{unit};
-ghost use Rattle.text.specs.Answer.{whole_at, next, part, lettered, field};
+ghost use Rattle.text.specs.Answer.{Finds, next, part, itself, seen, held};
 
-// The next place, or no match.
-#[derive(Clone, Copy)]
-pub enum Next {
-    No,
-    At(usize),
+// Why a reader hands nothing over: what it reads does not stand there, from which its caller may recover; or a refusal.
+#[derive(Clone, Copy, Debug, PartialEq, Eq)]
+pub enum Fault {
+    NoMatch,
+    UnknownType,
+    Number,
+    BadTime,
 }
 
-// A whole number and the next place, or no match.
-#[derive(Clone, Copy)]
-pub enum Whole {
-    No,
-    Is(u32, usize),
-}
+// What a reader found, and the next place.
+pub type Parsed<T> = Result<(T, usize), Fault>;
 
-// A letter and the next place, or no match.
-#[derive(Clone, Copy)]
-pub enum Letter {
-    No,
-    Is(u8, usize),
-}
-
-// A number that may be absent.
-#[derive(Clone, Copy)]
-pub enum Held {
-    Absent,
-    Known(u32),
-}
-
-// A number that may be absent, and the next place.
-#[derive(Clone, Copy)]
-pub struct Field {
-    pub value: Held,
-    pub at: usize,
-}
-
-fn wide(x: u32) -> u64
-    ensures { result ≡ x }
+// The byte `b`: the place behind it.
+pub fn byte(s: &[u8], at: usize, b: u8) -> Result<usize, Fault>
+    ensures { Finds s.now at (char b) next result }
 {
-    x as u64
-}
-
-// The byte `b`.
-pub fn byte(s: &[u8], at: usize, b: u8) -> Next
-    ensures { Reads s.now at (char b) (next result) × (s.now ≡ s.now) }
-{
-    if s.len() <= at {
-        return Next::No;
-    }
-    if s[at] == b {
-        Next::At(at + 1)
-    } else {
-        Next::No
+    match s.get(at) {
+        Some(&c) if c == b => Ok(at + 1),
+        _ => Err(Fault::NoMatch),
     }
 }
 
 // One of two letters.
-pub fn one_of(s: &[u8], at: usize, a: u8, b: u8) -> Letter
-    ensures { Reads s.now at (one_of a b) (lettered result) × (s.now ≡ s.now) }
+pub fn one_of(s: &[u8], at: usize, a: u8, b: u8) -> Parsed<u8>
+    ensures { Finds s.now at (one_of a b) itself result }
 {
-    if s.len() <= at {
-        return Letter::No;
+    match s.get(at) {
+        Some(&c) if c == a => Ok((c, at + 1)),
+        Some(&c) if c == b => Ok((c, at + 1)),
+        _ => Err(Fault::NoMatch),
     }
-    let c = s[at];
-    if c == a {
-        return Letter::Is(c, at + 1);
-    }
-    if c == b {
-        return Letter::Is(c, at + 1);
-    }
-    Letter::No
-}
-
-// Whether `b` is one of `letters`.
-fn has(letters: &[u8], b: u8) -> bool
-    ensures { (result ≡ among b letters.now) × (letters.now ≡ letters.now) }
-{
-    let mut i: usize = 0;
-    while i < letters.len() {
-        if letters[i] == b {
-            return true;
-        }
-        i += 1;
-    }
-    false
 }
 
 // One of `letters`.
-pub fn one_among(s: &[u8], at: usize, letters: &[u8]) -> Letter
-    ensures { Reads s.now at (letter_of letters.now) (lettered result) × (s.now ≡ s.now) × (letters.now ≡ letters.now) }
+pub fn one_among(s: &[u8], at: usize, letters: &[u8]) -> Parsed<u8>
+    ensures { Finds s.now at (letter_of letters.now) itself result }
 {
-    if s.len() <= at {
-        return Letter::No;
+    match s.get(at) {
+        Some(c) if letters.contains(c) => Ok((*c, at + 1)),
+        _ => Err(Fault::NoMatch),
     }
-    let c = s[at];
-    if has(letters, c) {
-        return Letter::Is(c, at + 1);
-    }
-    Letter::No
 }
 
 // The text up to the first byte `b`: the place of that byte.
-pub fn until(s: &[u8], at: usize, b: u8) -> Next
-    ensures { Reads s.now at (until b) (part s.now at result) × (s.now ≡ s.now) }
+pub fn until(s: &[u8], at: usize, b: u8) -> Result<usize, Fault>
+    ensures { Finds s.now at (until b) (part s.now at) result }
 {
-    let mut i = at;
-    while i < s.len() {
+    for i in at..s.len() {
         if s[i] == b {
-            return Next::At(i);
+            return Ok(i);
         }
-        i += 1;
     }
-    Next::No
+    Err(Fault::NoMatch)
 }
 
 // One or more digits that write a number up to `max`.
-pub fn number(s: &[u8], at: usize, max: u32) -> Whole
-    ensures { Reads s.now at (number max) (whole_at result) × (s.now ≡ s.now) }
+pub fn number(s: &[u8], at: usize, max: u32) -> Parsed<u32>
+    ensures { Finds s.now at (number max) itself result }
 {
     if s.len() <= at {
-        return Whole::No;
+        return Err(Fault::NoMatch);
     }
     let first = unit(s[at]);
     if 9 < first {
-        return Whole::No;
+        return Err(Fault::NoMatch);
     }
     if max < first {
-        return Whole::No;
+        return Err(Fault::NoMatch);
     }
-    let top = wide(max);
-    let mut value = wide(first);
-    let mut i = at + 1;
-    while i < s.len() {
+    let top = u64::from(max);
+    let mut value = u64::from(first);
+    for i in at + 1..s.len() {
         let d = unit(s[i]);
         if 9 < d {
-            return Whole::Is(value as u32, i);
+            return Ok((value as u32, i));
         }
-        value = value * 10 + wide(d);
+        value = value * 10 + u64::from(d);
         if top < value {
-            return Whole::No;
+            return Err(Fault::NoMatch);
         }
-        i += 1;
     }
-    Whole::Is(value as u32, i)
+    Ok((value as u32, s.len()))
 }
 
 // A number up to `max`, if one stands there.
-pub fn opt_number(s: &[u8], at: usize, max: u32) -> Field
-    ensures { Reads s.now at (opt (number max)) (field result) × (s.now ≡ s.now) }
+pub fn opt_number(s: &[u8], at: usize, max: u32) -> (Option<u32>, usize)
+    ensures { Finds s.now at (opt (number max)) (seen held) (Ok result) }
 {
     match number(s, at, max) {
-        Whole::Is(v, next) => Field {
-            value: Held::Known(v),
-            at: next,
-        },
-        Whole::No => Field {
-            value: Held::Absent,
-            at: at,
-        },
+        Ok((n, next)) => (Some(n), next),
+        Err(_) => (None, at),
     }
 }
 
@@ -181,57 +113,46 @@ pub fn unit(b: u8) -> u32
 }
 
 // Two bytes: digits, or `+` and a digit.
-pub fn two(s: &[u8], at: usize) -> Whole
-    ensures { Reads s.now at two_bytes (whole_at result) × (s.now ≡ s.now) }
+pub fn two(s: &[u8], at: usize) -> Parsed<u32>
+    ensures { Finds s.now at two_bytes itself result }
 {
-    if s.len() < 2 {
-        return Whole::No;
-    }
-    if s.len() - 2 < at {
-        return Whole::No;
-    }
-    let mut tens = unit(s[at]);
-    if 9 < tens {
-        if s[at] != b'+' {
-            return Whole::No;
-        }
-        tens = 0;
-    }
-    let ones = unit(s[at + 1]);
-    if 9 < ones {
-        return Whole::No;
-    }
-    Whole::Is(tens * 10 + ones, at + 2)
+    fixed_width::<2>(s, at)
 }
 
 // Three bytes: digits, or `+` and digits, up to 255.
-pub fn three(s: &[u8], at: usize) -> Whole
-    ensures { Reads s.now at three_bytes (whole_at result) × (s.now ≡ s.now) }
+pub fn three(s: &[u8], at: usize) -> Parsed<u32>
+    ensures { Finds s.now at three_bytes itself result }
 {
-    if s.len() < 3 {
-        return Whole::No;
+    fixed_width::<3>(s, at)
+}
+
+// `N` bytes, two or more: digits, or `+` and digits, up to 255.
+fn fixed_width<const N: usize>(s: &[u8], at: usize) -> Parsed<u32>
+    requires { 2 ≤ N }
+    ensures { Finds s.now at (fixed N 255) itself result }
+{
+    if s.len() < N {
+        return Err(Fault::NoMatch);
     }
-    if s.len() - 3 < at {
-        return Whole::No;
+    if s.len() - N < at {
+        return Err(Fault::NoMatch);
     }
-    let mut hundreds = unit(s[at]);
-    if 9 < hundreds {
+    let mut value = unit(s[at]);
+    if 9 < value {
         if s[at] != b'+' {
-            return Whole::No;
+            return Err(Fault::NoMatch);
         }
-        hundreds = 0;
+        value = 0;
     }
-    let tens = unit(s[at + 1]);
-    if 9 < tens {
-        return Whole::No;
+    for i in at + 1..at + N {
+        let d = unit(s[i]);
+        if 9 < d {
+            return Err(Fault::NoMatch);
+        }
+        value = value * 10 + d;
+        if 255 < value {
+            return Err(Fault::NoMatch);
+        }
     }
-    let ones = unit(s[at + 2]);
-    if 9 < ones {
-        return Whole::No;
-    }
-    let v = (hundreds * 10 + tens) * 10 + ones;
-    if 255 < v {
-        return Whole::No;
-    }
-    Whole::Is(v, at + 3)
+    Ok((value, at + N))
 }

@@ -2,14 +2,14 @@
 // a whole text, which is a step for each of its bytes. Also whether a text is ASCII.
 #![tactic(auto)]
 
-ghost use Rattle.std.specs.Prelude.{max, ◌≡◌, cond};
+ghost use Rattle.std.specs.Prelude.{◌≡◌, cond};
 ghost use Rattle.std.proofs.Math.Option.{none};
 ghost use Rattle.utf8.specs.Rfc3629.{utf8_char};
 ghost use Rattle.utf8.specs.Utf8.{within, follow, step, may_end, utf8, ascii};
 ghost use Rattle.utf8.specs.Answer.{pending};
 
 // What the bytes so far leave open. Each of the nine is left by some bytes, and bytes leave no other; a text begins at `Whole`.
-#[derive(Clone, Copy)]
+#[derive(Clone, Copy, Debug, PartialEq, Eq)]
 pub enum Utf8 {
     // Only whole characters so far.
     Whole,
@@ -48,16 +48,15 @@ fn lead(b: u8) -> Utf8
 fn within(b: u8, lo: u8, hi: u8, next: Utf8) -> Utf8
     ensures { pending result ≡ cond (within (lo, hi) b) (pending next) none }
 {
-    if b < lo {
-        return Utf8::Broken;
+    if lo <= b && b <= hi {
+        next
+    } else {
+        Utf8::Broken
     }
-    if hi < b {
-        return Utf8::Broken;
-    }
-    next
 }
 
 // The state after one byte more.
+#[tactic(auto, unfolding(crate::specs::Utf8::step))]
 pub fn step(state: Utf8, b: u8) -> Utf8
     ensures { pending result ≡ step (pending state) b }
 {
@@ -78,44 +77,27 @@ pub fn step(state: Utf8, b: u8) -> Utf8
 pub fn whole(state: Utf8) -> bool
     ensures { result ≡ may_end (pending state) }
 {
-    match state {
-        Utf8::Whole => true,
-        _ => false,
-    }
+    matches!(state, Utf8::Whole)
 }
 
 // Whether a text is valid UTF-8.
 pub fn is_utf8(s: &[u8]) -> bool
-    ensures { (result ≡ utf8 s.now) × (s.now ≡ s.now) }
+    ensures { result ≡ utf8 s.now }
 {
     let mut state = Utf8::Whole;
-    let mut i: usize = 0;
-    while i < s.len() {
-        state = step(state, s[i]);
-        i += 1;
+    for b in s {
+        state = step(state, *b);
     }
     whole(state)
 }
 
-// The larger of two bytes.
-fn larger(a: u8, b: u8) -> u8
-    ensures { result ≡ max a b }
-{
-    if a < b {
-        return b;
-    }
-    a
-}
-
 // Whether all bytes of a text are ASCII: whether the largest is. No byte ends the loop early, so that it takes many bytes at a time.
 pub fn is_ascii(s: &[u8]) -> bool
-    ensures { (result ≡ ascii s.now) × (s.now ≡ s.now) }
+    ensures { result ≡ ascii s.now }
 {
     let mut top: u8 = 0;
-    let mut i: usize = 0;
-    while i < s.len() {
-        top = larger(top, s[i]);
-        i += 1;
+    for b in s {
+        top = top.max(*b);
     }
     top < 0x80
 }

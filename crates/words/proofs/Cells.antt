@@ -1,16 +1,18 @@
--- The cells of a GSA record are its satellites with zeros after them, so that its words are those of the sentence. Assumes nothing.
-use Prim.Native.Nat.{ℕ, zero, suc, ◌-◌}
-use mathlib.Core.Path.{◌≡◌, refl, ap, ◌∙◌}
+-- The cells of a GSA record are its satellites with zeros after them, so that count and cells are the words of the satellites. Assumes nothing.
+use Prim.Native.Nat.{ℕ, zero, suc, ◌+◌, ◌-◌, ◌≤◌}
+use native.Mathlib.Numerals.{add-one}
+use native.Mathlib.Omega.{arith}
+use mathlib.Core.Path.{◌≡◌, refl, ap, sym, ◌∙◌}
 use mathlib.Core.List.{List, [], ◌∷◌, ◌++◌}
-use lib.ListN.{length, replicate}
-use Rattle.frame.specs.Answer.{talker_bytes}
-use Rattle.frame.specs.declared.refusal.Talker.{Talker}
-use Rattle.gsa.specs.Gsa.{kept}
-use Rattle.gsa.specs.Answer.{row, system, dops_of, gsa_of}
-use Rattle.gsa.specs.declared.GsaHead.{GsaHead}
-use Rattle.words.specs.Part.{zeros, padded}
-use Rattle.words.specs.Gsa.{gsa_head, gsa_tail, gsa_words}
-use Rattle.words.specs.Answer.{gsa_row}
+use lib.ListN.{length, take, set, replicate, length-append, length-replicate, length-take}
+use lib.Seq.{sets, take_all, length-take-le}
+use Rattle.gsa.specs.Gsa.{kept, row}
+use Rattle.words.specs.Part.{padded}
+use Rattle.words.specs.Gsa.{cell_words}
+
+padded-all : (l : List ℕ) → padded (length l) l ≡ l
+padded-all [] = refl
+padded-all (x ∷ l) = ap (λ (r : List ℕ). x ∷ r) (padded-all l)
 
 padded-zeros : (n k : ℕ) → padded n (replicate k 0) ≡ padded n []
 padded-zeros zero k = refl
@@ -22,9 +24,29 @@ padded-after zero k l = refl
 padded-after (suc n) k [] = padded-zeros (suc n) k
 padded-after (suc n) k (x ∷ l) = ap (λ (r : List ℕ). x ∷ r) (padded-after n k l)
 
-pub gsa-words : (cells : List ℕ) (count : ℕ) (xs : List ℕ) (t : Talker) (h : GsaHead) → cells ≡ row xs → count ≡ length xs
-    → gsa_row t h cells count ≡ gsa_words (record { talker = talker_bytes t; body = gsa_of xs h })
-gsa-words cells count xs t h e f =
-    let head : List ℕ = gsa_head (talker_bytes t) h.mode h.fix (system h.system) (dops_of h.dops) in
-    ap (λ (n : ℕ). head ++ gsa_tail n cells) f
-    ∙ ap (λ (l : List ℕ). head ++ (length xs ∷ (l ++ zeros 2))) (ap (padded kept) e ∙ padded-after kept (kept - length xs) xs)
+module _ (cells : List ℕ) (count : ℕ) (most : count ≤ kept) (rest : cells ≡ row (take count cells)) where
+  pub all-kept : length cells ≡ kept
+  all-kept =
+      let e = ap length rest in
+      let l = length-take count cells in
+      let a = length-append (take count cells) (replicate (kept - length (take count cells)) 0) in
+      let r = length-replicate {A = ℕ} (kept - length (take count cells)) 0 in
+      omega arith
+
+  cells-are : cells ≡ padded kept (take count cells)
+  cells-are =
+      sym (padded-all cells)
+      ∙ ap (λ (n : ℕ). padded n cells) all-kept
+      ∙ ap (padded kept) rest
+      ∙ padded-after kept (kept - length (take count cells)) (take count cells)
+
+  -- behind the count, all of the cells
+  pub stored : (l o : List ℕ) (at i : ℕ) → kept ≤ i → o ≡ sets (set l at count) (at + 1) (take i cells) → o ≡ sets l at (cell_words (take count cells))
+  stored l o at i ended e =
+      let all = all-kept in
+      let used : length (take count cells) ≡ count = length-take-le count cells (omega arith) in
+      e
+      ∙ ap (sets (set l at count) (at + 1)) (take_all i cells (omega arith))
+      ∙ ap (λ (j : ℕ). sets (set l at count) j cells) (add-one at)
+      ∙ ap (λ (n : ℕ). sets (set l at n) (suc at) cells) (sym used)
+      ∙ ap (sets (set l at (length (take count cells))) (suc at)) cells-are

@@ -1,4 +1,3 @@
-pub mod Signs
 pub mod Stores
 pub mod Lengths
 pub mod Cells

@@ -1,10 +1,10 @@
 -- What the arguments of the code mean.
-use Rattle.std.specs.Prelude.{ℕ, List, ◌++◌}
 use Rattle.frame.specs.Answer.{talker_bytes, letters}
 use Rattle.frame.specs.declared.refusal.Talker.{Talker}
 use Rattle.frame.specs.declared.refusal.Kind.{Kind}
-use Rattle.gsa.specs.Answer.{dops_of, system}
-use Rattle.gsa.specs.declared.GsaHead.{GsaHead}
+use Rattle.gsa.specs.Gsa.{Gsa}
+use Rattle.gsa.specs.Answer.{gsa_of}
+use Rattle.gsa.specs.declared.GsaData.{GsaData}
 use Rattle.rmc.specs.Answer.{rmc_data}
 use Rattle.rmc.specs.declared.RmcData.{RmcData}
 use Rattle.rmc.specs.Rmc.{Rmc}
@@ -18,10 +18,12 @@ use Rattle.vtg.specs.Vtg.{Vtg}
 use Rattle.vtg.specs.Answer.{vtg_data}
 use Rattle.vtg.specs.declared.VtgData.{VtgData}
 use Rattle.answer.specs.Sentence.{Sentence, OtherSentence}
-use Rattle.words.specs.Gsa.{gsa_head, gsa_tail}
 
 abbrev pub rmc_sentence : Talker → RmcData → Sentence Rmc
 rmc_sentence t d = record { talker = talker_bytes t; body = rmc_data d }
+
+abbrev pub gsa_sentence : Talker → GsaData → Sentence Gsa
+gsa_sentence t d = record { talker = talker_bytes t; body = gsa_of d }
 
 abbrev pub gga_sentence : Talker → GgaData → Sentence Gga
 gga_sentence t d = record { talker = talker_bytes t; body = gga_data d }
@@ -34,8 +36,3 @@ vtg_sentence t d = record { talker = talker_bytes t; body = vtg_data d }
 
 abbrev pub other_sentence : Talker → Kind → OtherSentence
 other_sentence t k = record { talker = talker_bytes t; kind = letters k }
-
--- the words of a GSA record with its cells and their count as they are given
-abbrev pub gsa_row : Talker → GsaHead → List ℕ → ℕ → List ℕ
-gsa_row t h cells count =
-    gsa_head (talker_bytes t) h.mode h.fix (system h.system) (dops_of h.dops) ++ gsa_tail count cells

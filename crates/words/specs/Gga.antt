@@ -22,5 +22,9 @@ fix_words f = time_words f.time ++ (position_words f.position ++ (f.quality ∷ 
 abbrev pub height_words : Height → List ℕ
 height_words h = short_words h.hdop ++ (short_words h.altitude ++ short_words h.geoid)
 
+-- 3 to 34
+abbrev pub body_words : Gga → List ℕ
+body_words b = fix_words b.fix ++ height_words b.height
+
 abbrev pub gga_words : Sentence Gga → List ℕ
-gga_words g = 6 ∷ (padded 2 g.talker ++ (fix_words g.body.fix ++ (height_words g.body.height ++ zeros 5)))
+gga_words g = 6 ∷ (padded 2 g.talker ++ (body_words g.body ++ zeros 5))

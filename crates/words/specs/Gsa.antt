@@ -9,21 +9,18 @@
 --     19       count of satellites
 --     20 to 37 the satellites
 use Rattle.std.specs.Prelude.{ℕ, List, ◌∷◌, ◌++◌, length}
-use Rattle.std.proofs.Math.Option.{Option, get_or}
-use Rattle.gsa.specs.Gsa.{kept, Dops, Gsa}
+use Rattle.std.proofs.Math.Option.{get_or}
+use Rattle.gsa.specs.Gsa.{kept, Gsa}
 use Rattle.answer.specs.Sentence.{Sentence}
 use Rattle.words.specs.Part.{zeros, padded, dops_words}
 
--- 0 to 18
-abbrev pub gsa_head : List ℕ → ℕ → ℕ → Option ℕ → Option Dops → List ℕ
-gsa_head talker mode fix system dops =
-    2 ∷ (padded 2 talker ++ (mode ∷ fix ∷ get_or system 0 ∷ dops_words dops))
+-- 19 to 37
+abbrev pub cell_words : List ℕ → List ℕ
+cell_words satellites = length satellites ∷ padded kept satellites
 
--- 19 and on
-abbrev pub gsa_tail : ℕ → List ℕ → List ℕ
-gsa_tail count satellites = count ∷ (padded kept satellites ++ zeros 2)
+-- 3 to 37
+abbrev pub body_words : Gsa → List ℕ
+body_words b = b.mode ∷ b.fix ∷ get_or b.system 0 ∷ (dops_words b.dops ++ cell_words b.satellites)
 
 abbrev pub gsa_words : Sentence Gsa → List ℕ
-gsa_words g =
-    gsa_head g.talker g.body.mode g.body.fix g.body.system g.body.dops
-    ++ gsa_tail (length g.body.satellites) g.body.satellites
+gsa_words g = 2 ∷ (padded 2 g.talker ++ (body_words g.body ++ zeros 2))

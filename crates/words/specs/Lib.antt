@@ -8,4 +8,5 @@ pub mod Vtg
 pub mod Other
 pub mod Refused
 pub mod Words
+pub mod Lengths
 pub mod Answer

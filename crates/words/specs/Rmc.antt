@@ -30,7 +30,9 @@ abbrev pub ending_words : Ending → List ℕ
 ending_words e =
     short_words e.variation ++ (get_or e.letters.mode 0 ∷ get_or e.letters.status 0 ∷ [])
 
+-- 3 to 38
+abbrev pub body_words : Rmc → List ℕ
+body_words b = fix_words b.fix ++ (motion_words b.motion ++ ending_words b.ending)
+
 abbrev pub rmc_words : Sentence Rmc → List ℕ
-rmc_words r =
-    1 ∷ (padded 2 r.talker
-    ++ (fix_words r.body.fix ++ (motion_words r.body.motion ++ (ending_words r.body.ending ++ zeros 1))))
+rmc_words r = 1 ∷ (padded 2 r.talker ++ (body_words r.body ++ zeros 1))

@@ -1,16 +1,19 @@
 // A GSA sentence in words.
-ghost use Rattle.std.specs.Prelude.{◌∷◌, ◌≡◌, ◌≤◌, length};
-ghost use Rattle.std.proofs.Math.Option.{get_or};
-ghost use Rattle.std.proofs.lemmas.List.Edits.{sets};
-ghost use Rattle.gsa.specs.Gsa.{kept};
-ghost use Rattle.gsa.specs.Answer.{dops_of, system};
-ghost use Rattle.words.specs.Part.{padded, dops_words};
-ghost use Rattle.words.specs.Words.{word_count, into};
-ghost use Rattle.words.specs.Answer.{gsa_row};
+ghost use Rattle.std.specs.Prelude.{ℕ, List, ◌≡◌, refl};
+ghost use Rattle.std.proofs.Common.{rules};
+ghost use Rattle.gsa.specs.Gsa.{Dops as DopsOf};
+ghost use Rattle.gsa.specs.Answer.{three_dops, satellites_of, gsa_of};
+ghost use Rattle.words.specs.Part.{three_words};
+ghost use Rattle.words.specs.Gsa.{cell_words, body_words, gsa_words};
+ghost use Rattle.words.specs.Lengths.{cells-nineteen, gsa-body};
+ghost use Rattle.words.specs.Words.{into};
+ghost use Rattle.words.specs.Answer.{gsa_sentence};
 
-use crate::{WORDS, part};
+use crate::part::{Words, byte_word, put_option};
+use crate::record::{self, Body, put_sentence};
+use decimal::ShortDecimal;
 use frame::Talker;
-use gsa::{GsaHead, System};
+use gsa::{Dops, GsaData, Satellites};
 
 // Where each part stands.
 const MODE: usize = 3;
@@ -23,61 +26,73 @@ const DOPS: usize = 6;
 
 const COUNT: usize = 19;
 
-const SATELLITES: usize = 20;
-
 const REST: usize = 38;
 
-// A system number that may be absent.
-fn system_word(s: System) -> u64
-    ensures { result ≡ get_or (system s) 0 }
-{
-    match s {
-        System::Absent => 0,
-        System::Is(n) => n as u64,
+impl Words for Dops {
+    ghost SIZE = { 12 };
+
+    ghost Meaning = { DopsOf };
+
+    ghost meaning = { three_dops };
+
+    ghost words = { three_words };
+
+    const SIZE: usize = 3 * ShortDecimal::SIZE;
+
+    ghost long = { λ _. refl };
+
+    fn put(self, out: &mut [u64], at: usize) {
+        self.pdop.put(out, at);
+        self.hdop.put(out, at + ShortDecimal::SIZE);
+        self.vdop.put(out, at + 2 * ShortDecimal::SIZE);
     }
 }
 
-// Mode, fix, system and dilutions.
-fn put_fields(out: &mut [u64], head: GsaHead)
-    requires { word_count ≤ length out.old }
-    ensures { out.new ≡ sets out.old 3 (head.mode ∷ head.fix ∷ get_or (system head.system) 0 ∷ dops_words (dops_of head.dops)) }
-{
-    let system = head.system;
-    let dops = head.dops;
-    out[MODE] = head.mode as u64;
-    out[FIX] = head.fix as u64;
-    out[SYSTEM] = system_word(system);
-    part::put_dops(&mut *out, DOPS, dops);
-}
+// Their count, and the cells.
+impl Words for Satellites {
+    ghost SIZE = { 19 };
 
-// The cells of the satellites.
-fn put_cells(out: &mut [u64], cells: [u32; gsa::SATELLITES])
-    requires { word_count ≤ length out.old }
-    ensures { out.new ≡ sets out.old 20 (padded kept cells) }
-{
-    let mut i = 0;
-    while i < gsa::SATELLITES {
-        out[SATELLITES + i] = cells[i] as u64;
-        i += 1;
+    ghost Meaning = { List ℕ };
+
+    ghost meaning = { satellites_of };
+
+    ghost words = { cell_words };
+
+    const SIZE: usize = 1 + gsa::SATELLITES;
+
+    ghost long = { cells-nineteen };
+
+    fn put(self, out: &mut [u64], at: usize) {
+        out[at] = self.count as u64;
+        for i in 0..gsa::SATELLITES {
+            out[at + 1 + i] = u64::from(self.items[i]);
+        }
     }
 }
 
-// Puts a GSA sentence into the first 40 words, with the count and the cells as they are given, and nothing where there are fewer.
-pub fn put_gsa(
-    out: &mut [u64],
-    talker: Talker,
-    head: GsaHead,
-    cells: [u32; gsa::SATELLITES],
-    count: usize,
-)
-    ensures { out.new ≡ into (gsa_row talker head cells count) out.old }
-{
-    if out.len() < WORDS {
-        return;
+impl Body for GsaData {
+    ghost END = { 38 };
+
+    ghost words = { λ d. body_words (gsa_of d) };
+
+    const END: usize = REST;
+
+    ghost long = { λ d. gsa-body (gsa_of d) };
+
+    ghost within = { Prim.search rules };
+
+    fn put_body(self, out: &mut [u64]) {
+        out[MODE] = u64::from(self.mode);
+        out[FIX] = u64::from(self.fix);
+        out[SYSTEM] = byte_word(self.system);
+        put_option(out, DOPS, self.dops);
+        self.satellites.put(out, COUNT);
     }
-    part::put_head(&mut *out, part::GSA, talker.0, talker.1);
-    put_fields(&mut *out, head);
-    out[COUNT] = count as u64;
-    put_cells(&mut *out, cells);
-    part::put_zeros(&mut *out, REST, WORDS - REST);
+}
+
+// Puts a GSA sentence into the first 40 words, and nothing where there are fewer.
+pub fn put_gsa(out: &mut [u64], talker: Talker, d: GsaData)
+    ensures { out.new ≡ into (gsa_words (gsa_sentence talker d)) out.old }
+{
+    put_sentence(out, record::GSA, talker, d);
 }

@@ -7,6 +7,7 @@ mod gsa_words;
 mod gsv_words;
 mod other;
 mod part;
+mod record;
 mod refused;
 mod rmc_words;
 mod vtg_words;

@@ -1,69 +1,81 @@
 // A refusal in words.
-ghost use Rattle.std.specs.Prelude.{◌∷◌, ◌++◌, ◌≡◌, ◌≤◌, length};
-ghost use Rattle.std.proofs.lemmas.List.Edits.{sets};
-ghost use Rattle.frame.specs.Answer.{letters, refused};
-ghost use Rattle.words.specs.Part.{zeros};
-ghost use Rattle.words.specs.Refused.{carried_words, refused_words};
-ghost use Rattle.words.specs.Words.{word_count, into};
+ghost use Rattle.std.specs.Prelude.{ℕ, ◌≡◌, ◌+◌, length};
+ghost use Rattle.std.proofs.Common.{ap, rules};
+ghost use Rattle.frame.specs.Answer.{refused};
+ghost use Rattle.words.specs.Part.{padded};
+ghost use Rattle.words.specs.Refused.{refused_words};
+ghost use Rattle.words.specs.Lengths.{padded-long};
+ghost use Rattle.words.specs.Words.{into};
 
-use crate::{WORDS, part};
-use frame::{Kind, Refusal};
+use crate::record::{self, Body, put_record};
+use frame::{Refusal, Talker};
 
-// Where the number stands, how many values it carries, and the values.
-const NUMBER: usize = 1;
-
-const COUNT: usize = 2;
-
+// Where the values stand, and how many there may be.
 const VALUES: usize = 3;
 
-// Where zeros begin: behind two values, and behind the six letters of two types.
-const TWO_END: usize = 5;
+const MOST: usize = 6;
 
-const TYPES_END: usize = 9;
+const REST: usize = 9;
 
-// How many letters two types have.
-const LETTERS: u64 = 6;
-
-// Up to two values, and zeros behind them.
-fn put_values(out: &mut [u64], count: u64, first: u64, second: u64)
-    requires { word_count ≤ length out.old }
-    ensures { out.new ≡ sets out.old 2 (count ∷ first ∷ second ∷ zeros 35) }
-{
-    out[COUNT] = count;
-    part::put_two(&mut *out, VALUES, first, second);
-    part::put_zeros(&mut *out, TWO_END, WORDS - TWO_END);
-}
-
-// Two types, and zeros behind them.
-fn put_types(out: &mut [u64], expected: Kind, found: Kind)
-    requires { word_count ≤ length out.old }
-    ensures { out.new ≡ sets out.old 2 (6 ∷ (letters expected ++ (letters found ++ zeros 31))) }
-{
-    out[COUNT] = LETTERS;
-    part::put_type(&mut *out, VALUES, expected);
-    part::put_type(&mut *out, VALUES + part::TYPE_WORDS, found);
-    part::put_zeros(&mut *out, TYPES_END, WORDS - TYPES_END);
-}
-
-// How many values a refusal carries, the values, and zeros behind them.
-fn put_carried(out: &mut [u64], why: Refusal)
-    requires { word_count ≤ length out.old }
-    ensures { out.new ≡ sets out.old 2 (carried_words (refused why).carries ++ zeros 31) }
+// How many values a refusal carries.
+fn count_of(why: Refusal) -> u64
+    ensures { result ≡ length (refused why).carries }
 {
     match why {
-        Refusal::BadUtf8 => put_values(out, 0, 0, 0),
-        Refusal::NotAscii => put_values(out, 0, 0, 0),
-        Refusal::TooLong(n) => put_values(out, 1, n as u64, 0),
-        Refusal::Syntax => put_values(out, 0, 0, 0),
-        Refusal::UnknownType => put_values(out, 0, 0, 0),
-        Refusal::Checksum(c, f) => put_values(out, 2, c as u64, f as u64),
-        Refusal::UnknownTalker(t) => put_values(out, 2, t.0 as u64, t.1 as u64),
-        Refusal::SystemMismatch(m, n) => put_values(out, 2, m as u64, n as u64),
-        Refusal::Number => put_values(out, 0, 0, 0),
-        Refusal::WrongHeader(e, f) => put_types(out, e, f),
-        Refusal::BadTime => put_values(out, 0, 0, 0),
-        Refusal::LogTooLong(n) => put_values(out, 1, n as u64, 0),
-        Refusal::BadPlace(p) => put_values(out, 1, p as u64, 0),
+        Refusal::BadUtf8
+        | Refusal::NotAscii
+        | Refusal::Syntax
+        | Refusal::UnknownType
+        | Refusal::Number
+        | Refusal::BadTime => 0,
+        Refusal::TooLong(_) | Refusal::LogTooLong(_) | Refusal::BadPlace(_) => 1,
+        Refusal::Checksum(_, _) | Refusal::UnknownTalker(_) | Refusal::SystemMismatch(_, _) => 2,
+        Refusal::WrongHeader(_, _) => 6,
+    }
+}
+
+// The values, and zeros behind them.
+fn values_of(why: Refusal) -> [u64; MOST]
+    ensures { result ≡ padded 6 (refused why).carries }
+{
+    match why {
+        Refusal::BadUtf8
+        | Refusal::NotAscii
+        | Refusal::Syntax
+        | Refusal::UnknownType
+        | Refusal::Number
+        | Refusal::BadTime => [0; MOST],
+        Refusal::TooLong(n) | Refusal::LogTooLong(n) | Refusal::BadPlace(n) => {
+            [n as u64, 0, 0, 0, 0, 0]
+        }
+        Refusal::Checksum(a, b)
+        | Refusal::UnknownTalker(Talker(a, b))
+        | Refusal::SystemMismatch(a, b) => [u64::from(a), u64::from(b), 0, 0, 0, 0],
+        Refusal::WrongHeader(expected, found) => [
+            u64::from(expected.0),
+            u64::from(expected.1),
+            u64::from(expected.2),
+            u64::from(found.0),
+            u64::from(found.1),
+            u64::from(found.2),
+        ],
+    }
+}
+
+impl Body for Refusal {
+    ghost END = { 9 };
+
+    ghost words = { λ r. padded 6 (refused r).carries };
+
+    const END: usize = REST;
+
+    ghost long = { λ r. ap (λ (n : ℕ). 3 + n) (padded-long 6 (refused r).carries) };
+
+    ghost within = { Prim.search rules };
+
+    fn put_body(self, out: &mut [u64]) {
+        let values = values_of(self);
+        out[VALUES..REST].copy_from_slice(&values);
     }
 }
 
@@ -71,10 +83,11 @@ fn put_carried(out: &mut [u64], why: Refusal)
 pub fn put_refused(out: &mut [u64], why: Refusal)
     ensures { out.new ≡ into (refused_words (refused why)) out.old }
 {
-    if out.len() < WORDS {
-        return;
-    }
-    out[part::KIND] = part::REFUSED;
-    out[NUMBER] = why.number() as u64;
-    put_carried(&mut *out, why);
+    put_record(
+        out,
+        record::REFUSED,
+        u64::from(why.number()),
+        count_of(why),
+        why,
+    );
 }

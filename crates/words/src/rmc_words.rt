@@ -1,12 +1,15 @@
 // An RMC sentence in words.
 ghost use Rattle.std.specs.Prelude.{◌≡◌, ◌≤◌, length};
 ghost use Rattle.std.proofs.lemmas.List.Edits.{sets};
-ghost use Rattle.rmc.specs.Answer.{fix_of, motion_of, ending_of};
-ghost use Rattle.words.specs.Rmc.{fix_words, motion_words, ending_words, rmc_words};
+ghost use Rattle.std.proofs.Common.{rules};
+ghost use Rattle.rmc.specs.Answer.{fix_of, motion_of, ending_of, rmc_data};
+ghost use Rattle.words.specs.Rmc.{fix_words, motion_words, ending_words, body_words, rmc_words};
 ghost use Rattle.words.specs.Words.{word_count, into};
 ghost use Rattle.words.specs.Answer.{rmc_sentence};
+ghost use Rattle.words.specs.Lengths.{rmc-body};
 
-use crate::{WORDS, part};
+use crate::part::{byte_word, put_option};
+use crate::record::{self, Body, put_sentence};
 use frame::Talker;
 use rmc::{Ending, Fix, Motion, RmcData};
 
@@ -36,11 +39,9 @@ fn put_fix(out: &mut [u64], fix: Fix)
     requires { word_count ≤ length out.old }
     ensures { out.new ≡ sets out.old 3 (fix_words (fix_of fix)) }
 {
-    let time = fix.time;
-    let position = fix.position;
-    part::put_time(&mut *out, TIME, time);
-    out[STATUS] = fix.status as u64;
-    part::put_position(&mut *out, POSITION, position);
+    put_option(out, TIME, fix.time);
+    out[STATUS] = u64::from(fix.status);
+    put_option(out, POSITION, fix.position);
 }
 
 // Speed, course and date.
@@ -48,12 +49,9 @@ fn put_motion(out: &mut [u64], motion: Motion)
     requires { word_count ≤ length out.old }
     ensures { out.new ≡ sets out.old 18 (motion_words (motion_of motion)) }
 {
-    let speed = motion.speed;
-    let course = motion.course;
-    let date = motion.date;
-    part::put_short(&mut *out, SPEED, speed);
-    part::put_short(&mut *out, COURSE, course);
-    part::put_date(&mut *out, DATE, date);
+    put_option(out, SPEED, motion.speed);
+    put_option(out, COURSE, motion.course);
+    put_option(out, DATE, motion.date);
 }
 
 // Variation, mode and navigational status.
@@ -61,28 +59,32 @@ fn put_ending(out: &mut [u64], ending: Ending)
     requires { word_count ≤ length out.old }
     ensures { out.new ≡ sets out.old 32 (ending_words (ending_of ending)) }
 {
-    let variation = ending.variation;
-    let letters = ending.letters;
-    let mode = letters.mode;
-    let status = letters.status;
-    part::put_short(&mut *out, VARIATION, variation);
-    out[MODE] = part::letter_word(mode);
-    out[NAVIGATION] = part::letter_word(status);
+    put_option(out, VARIATION, ending.variation);
+    out[MODE] = byte_word(ending.letters.mode);
+    out[NAVIGATION] = byte_word(ending.letters.status);
+}
+
+impl Body for RmcData {
+    ghost END = { 39 };
+
+    ghost words = { λ d. body_words (rmc_data d) };
+
+    const END: usize = REST;
+
+    ghost long = { λ d. rmc-body (rmc_data d) };
+
+    ghost within = { Prim.search rules };
+
+    fn put_body(self, out: &mut [u64]) {
+        put_fix(out, self.fix);
+        put_motion(out, self.motion);
+        put_ending(out, self.ending);
+    }
 }
 
 // Puts an RMC sentence into the first 40 words, and nothing where there are fewer.
 pub fn put_rmc(out: &mut [u64], talker: Talker, d: RmcData)
     ensures { out.new ≡ into (rmc_words (rmc_sentence talker d)) out.old }
 {
-    if out.len() < WORDS {
-        return;
-    }
-    let fix = d.fix;
-    let motion = d.motion;
-    let ending = d.ending;
-    part::put_head(&mut *out, part::RMC, talker.0, talker.1);
-    put_fix(&mut *out, fix);
-    put_motion(&mut *out, motion);
-    put_ending(&mut *out, ending);
-    part::put_zeros(&mut *out, REST, WORDS - REST);
+    put_sentence(out, record::RMC, talker, d);
 }

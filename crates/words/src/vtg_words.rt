@@ -1,40 +1,65 @@
 // A VTG sentence in words.
-ghost use Rattle.std.specs.Prelude.{◌≡◌, ◌≤◌, length};
-ghost use Rattle.std.proofs.lemmas.List.Edits.{sets};
-ghost use Rattle.vtg.specs.Answer.{speed_held};
-ghost use Rattle.words.specs.Vtg.{speed_words, vtg_words};
-ghost use Rattle.words.specs.Words.{word_count, into};
+ghost use Rattle.std.specs.Prelude.{◌≡◌, refl};
+ghost use Rattle.std.proofs.Common.{rules};
+ghost use Rattle.vtg.specs.Vtg.{Speed as SpeedOf};
+ghost use Rattle.vtg.specs.Answer.{a_speed, vtg_data};
+ghost use Rattle.words.specs.Vtg.{unit_words, body_words, vtg_words};
+ghost use Rattle.words.specs.Lengths.{vtg-body};
+ghost use Rattle.words.specs.Words.{into};
 ghost use Rattle.words.specs.Answer.{vtg_sentence};
 
-use crate::{WORDS, part};
+use crate::part::{Words, put_option};
+use crate::record::{self, Body, put_sentence};
+use decimal::ShortDecimal;
 use frame::Talker;
-use vtg::{SpeedHeld, VtgData};
+use vtg::{Speed, VtgData};
 
-// Where each part stands: the course, and of the speed whether it is there, with its unit, as it is written, and in knots.
+// Where each part stands.
 const COURSE: usize = 3;
 
 const SPEED: usize = 8;
 
-const WRITTEN: usize = 10;
-
-const KNOTS: usize = 14;
-
 const REST: usize = 15;
 
-// A speed that may be absent.
-fn put_speed(out: &mut [u64], h: SpeedHeld)
-    requires { word_count ≤ length out.old }
-    ensures { out.new ≡ sets out.old 8 (speed_words (speed_held h)) }
-{
-    match h {
-        SpeedHeld::Absent => part::put_zeros(out, SPEED, REST - SPEED),
-        SpeedHeld::Is(s) => {
-            let written = s.written;
-            let bits = decimal::bits_f32(s.knots);
-            part::put_two(&mut *out, SPEED, 1, s.unit as u64);
-            part::put_dop(&mut *out, WRITTEN, written);
-            out[KNOTS] = bits as u64;
-        }
+// And of a speed, behind its unit: the speed as it is written, and in knots.
+const WRITTEN: usize = 1;
+
+const KNOTS: usize = WRITTEN + ShortDecimal::SIZE;
+
+impl Words for Speed {
+    ghost SIZE = { 6 };
+
+    ghost Meaning = { SpeedOf };
+
+    ghost meaning = { a_speed };
+
+    ghost words = { unit_words };
+
+    const SIZE: usize = KNOTS + 1;
+
+    ghost long = { λ _. refl };
+
+    fn put(self, out: &mut [u64], at: usize) {
+        out[at] = u64::from(self.unit);
+        self.written.put(out, at + WRITTEN);
+        out[at + KNOTS] = u64::from(decimal::bits_f32(self.knots));
+    }
+}
+
+impl Body for VtgData {
+    ghost END = { 15 };
+
+    ghost words = { λ d. body_words (vtg_data d) };
+
+    const END: usize = REST;
+
+    ghost long = { λ d. vtg-body (vtg_data d) };
+
+    ghost within = { Prim.search rules };
+
+    fn put_body(self, out: &mut [u64]) {
+        put_option(out, COURSE, self.course);
+        put_option(out, SPEED, self.speed);
     }
 }
 
@@ -42,13 +67,5 @@ fn put_speed(out: &mut [u64], h: SpeedHeld)
 pub fn put_vtg(out: &mut [u64], talker: Talker, d: VtgData)
     ensures { out.new ≡ into (vtg_words (vtg_sentence talker d)) out.old }
 {
-    if out.len() < WORDS {
-        return;
-    }
-    let course = d.course;
-    let speed = d.speed;
-    part::put_head(&mut *out, part::VTG, talker.0, talker.1);
-    part::put_short(&mut *out, COURSE, course);
-    put_speed(&mut *out, speed);
-    part::put_zeros(&mut *out, REST, WORDS - REST);
+    put_sentence(out, record::VTG, talker, d);
 }

@@ -1,58 +1,44 @@
--- `long_decimal` meets its contract: the sign and then the digits are the decimal (`Order`), and the billionths of digits within the long
--- limits are below 10 ^ 12, so that they fit, the f64 holds them exactly, and their quotient is that of the digits. Assumes nothing.
+-- `long_decimal` meets its contract: the decimal is taken over, and the billionths of digits within the long limits are below 10 ^ 12, so that
+-- they fit, the f64 holds them exactly, and their quotient is that of the digits. Assumes nothing.
 use Prim.Native.Nat.{◌-◌, ◌*◌, ◌^◌, ◌<◌}
 use native.Mathlib.Omega.{arith}
-use mathlib.Core.Path.{◌≡◌, refl, ap}
+use mathlib.Core.Path.{◌≡◌, refl}
 use lib.Ieee.{binary64}
-use Rattle.text.proofs.Places.{go, fail, done}
-use Rattle.decimal.specs.Decimal.{long, without_sign}
+use Rattle.text.proofs.Finding.{finding, go-on, done}
 use Rattle.decimal.specs.Places.{long_decimal}
-use Rattle.decimal.specs.Answer.{unsigned_at}
 use Rattle.decimal.proofs.Power.{capped, minutes-lt}
-use Rattle.decimal.proofs.Bounds.{Bounded, held}
+use Rattle.decimal.proofs.Bounds.{kept}
 use Rattle.decimal.proofs.Exact.{of-billionths}
-use Rattle.decimal.proofs.Order.{sign-alone, nothing, some-digits, no-digits}
 use Rattle.decimal.proofs.long_decimal.Goals as goal
 
-pub returns-then-first : goal.returns-then-first
+pub returns-in_err-d : goal.returns-in_err-d
 unfolding long_decimal
-returns-then-first c =
-    (fail _ (sign-alone long c.minus_sign-first.ensures.0 c.unsigned_place.ensures.0 (ap unsigned_at c.in-Absent.is) c.if-first.true) refl, refl)
+returns-in_err-d c = search finding
 
-pub overflow_sub-k : goal.overflow_sub-k
-overflow_sub-k c =
-    let known : Bounded long (without_sign c.in-Is.n c.in-Is.k) = held long c.unsigned_place.ensures.0 c.in-Is.is in
-    omega (arith, (known).few)
+pub returns-in_default : goal.returns-in_default
+unfolding long_decimal
+returns-in_default c = go-on _ c.in_ok-d.ensures (done (rw c.in_default.is) refl)
+
+pub overflow_sub-d : goal.overflow_sub-d
+overflow_sub-d c = (kept _ c.in_ok-d.ensures c.in-Some.is).few
 
 pub overflow_mul-billionths : goal.overflow_mul-billionths
 overflow_mul-billionths c =
-    let known : Bounded long (without_sign c.in-Is.n c.in-Is.k) = held long c.unsigned_place.ensures.0 c.in-Is.is in
-    let power : c.pow10.result ≡ 10 ^ (9 - c.in-Is.k) = capped _ (omega arith) c.pow10.ensures in
-    let few : c.in-Is.n * c.pow10.result < 1000000000000 = let h = known in
-    rw (power) (minutes-lt _ _ h.front h.few) in
+    let known = kept _ c.in_ok-d.ensures c.in-Some.is in
+    let power : c.pow10.result ≡ 10 ^ (9 - c.in-Some.d.decimals) = capped _ (omega arith) c.pow10.ensures in
+    let few : c.in-Some.d.size * c.pow10.result < 1000000000000 = rw power (minutes-lt _ _ known.front known.few) in
     omega (arith, few)
 
-pub nearest_f64-value-requires : goal.nearest_f64-value-requires
-nearest_f64-value-requires c =
-    let known : Bounded long (without_sign c.in-Is.n c.in-Is.k) = held long c.unsigned_place.ensures.0 c.in-Is.is in
-    let power : c.pow10.result ≡ 10 ^ (9 - c.in-Is.k) = capped _ (omega arith) c.pow10.ensures in
-    let few : c.in-Is.n * c.pow10.result < 1000000000000 = let h = known in
-    rw (power) (minutes-lt _ _ h.front h.few) in
-    few
+pub nearest_f64-requires : goal.nearest_f64-requires
+nearest_f64-requires c =
+    let known = kept _ c.in_ok-d.ensures c.in-Some.is in
+    let power : c.pow10.result ≡ 10 ^ (9 - c.in-Some.d.decimals) = capped _ (omega arith) c.pow10.ensures in
+    rw power (minutes-lt _ _ known.front known.few)
 
-pub returns-else-first : goal.returns-else-first
+pub returns : goal.returns
 unfolding long_decimal
-returns-else-first c =
-    (go _ (nothing long c.minus_sign-first.ensures.0 c.unsigned_place.ensures.0 (ap unsigned_at c.in-Absent.is) c.if-first.false) refl (done _ _ _), refl)
-
-pub returns-in-Is : goal.returns-in-Is
-unfolding long_decimal
-returns-in-Is c =
-    let power : c.pow10.result ≡ 10 ^ (9 - c.in-Is.k) = capped _ (omega arith) c.pow10.ensures in
-    let known : Bounded long (without_sign c.in-Is.n c.in-Is.k) = held long c.unsigned_place.ensures.0 c.in-Is.is in
-    (rw (c.nearest_f64-value.ensures, power, of-billionths binary64 c.minus_sign-first.result.minus c.in-Is.n c.in-Is.k (known).few) (go _ (some-digits long c.minus_sign-first.ensures.0 c.unsigned_place.ensures.0 (ap unsigned_at c.in-Is.is)) refl (done _ _ _)), refl)
-
-pub returns-in-Number : goal.returns-in-Number
-unfolding long_decimal
-returns-in-Number c =
-    (fail _ (no-digits long c.minus_sign-first.ensures.0 c.unsigned_place.ensures.0 (ap unsigned_at c.in-Number.is)) refl, refl)
+returns c =
+    let known = kept _ c.in_ok-d.ensures c.in-Some.is in
+    let power : c.pow10.result ≡ 10 ^ (9 - c.in-Some.d.decimals) = capped _ (omega arith) c.pow10.ensures in
+    rw (c.nearest_f64.ensures, power, of-billionths binary64 c.in-Some.d.minus c.in-Some.d.size c.in-Some.d.decimals known.few)
+    (go-on _ c.in_ok-d.ensures (done (rw c.in-Some.is) refl))

@@ -10,14 +10,6 @@ use Rattle.decimal.proofs.Power.{under, capped}
 use Rattle.decimal.proofs.Exact.{in-float, divided, neg-round}
 use Rattle.decimal.proofs.nearest_f32.Goals as goal
 
-pub overflow_cast-power : goal.overflow_cast-power
-overflow_cast-power c =
-    let k = c.args.k in
-    omega (arith, capped k (omega arith) c.pow10-power.ensures, under k 6 (omega arith))
-
-pub int_to_float-quotient : goal.int_to_float-quotient
-int_to_float-quotient c = in-float binary32 c.args.size (omega arith)
-
 pub int_to_float-quotient-2 : goal.int_to_float-quotient-2
 int_to_float-quotient-2 c =
     let k = c.args.k in

@@ -1,30 +1,19 @@
 -- `do_parse_gga` meets its contract: the two parts, one after another. Assumes nothing.
-use mathlib.Core.Path.{refl}
-use Rattle.text.proofs.Texts.{text-none, text-bad, text-some}
+use Rattle.text.proofs.Finding.{finding}
+use Rattle.text.proofs.Texts.{whole}
 use Rattle.gga.specs.Gga.{gga}
-use Rattle.gga.proofs.Steps.{parts}
+use Rattle.gga.specs.Answer.{gga_data}
+use Rattle.std.specs.Prelude.{Ok}
 use Rattle.gga.proofs.do_parse_gga.Goals as goal
 
-pub returns-in-No : goal.returns-in-No
+pub returns-in_err-fix : goal.returns-in_err-fix
 unfolding gga
-returns-in-No c = (text-none _ gga (search parts depth 14), refl)
+returns-in_err-fix c = whole _ 0 gga gga_data 0 (search finding depth 14 fits 5000)
 
-pub returns-in-No-height_part : goal.returns-in-No-height_part
+pub returns-in_err-height : goal.returns-in_err-height
 unfolding gga
-returns-in-No-height_part c = (text-none _ gga (search parts depth 14), refl)
+returns-in_err-height c = whole _ 0 gga gga_data 0 (search finding depth 14 fits 5000)
 
-pub returns-in-Is-height_part : goal.returns-in-Is-height_part
+pub returns : goal.returns
 unfolding gga
-returns-in-Is-height_part c = (text-some _ gga c.in-Is-height_part.field-1 (search parts depth 14), refl)
-
-pub returns-in-Number-height_part : goal.returns-in-Number-height_part
-unfolding gga
-returns-in-Number-height_part c = (text-bad _ gga (search parts depth 14), refl)
-
-pub returns-in-Number : goal.returns-in-Number
-unfolding gga
-returns-in-Number c = (text-bad _ gga (search parts depth 14), refl)
-
-pub returns-in-BadTime : goal.returns-in-BadTime
-unfolding gga
-returns-in-BadTime c = (text-bad _ gga (search parts depth 14), refl)
+returns c = whole _ 0 gga gga_data {r = Ok (record { fix = c.in_ok-fix.fix; height = c.in_ok-height.height })} c.in_ok-height.field-0-1 (search finding depth 14 fits 5000)

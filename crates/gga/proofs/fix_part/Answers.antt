@@ -1,37 +1,24 @@
 -- `fix_part` meets its contract: time, position, fix and satellites. Assumes nothing.
-use mathlib.Core.Path.{refl}
+use Rattle.text.proofs.Finding.{finding}
 use Rattle.gga.specs.Gga.{fix_part}
-use Rattle.gga.proofs.Steps.{parts}
 use Rattle.gga.proofs.fix_part.Goals as goal
 
-pub returns-in_default : goal.returns-in_default
+pub returns-in_err-time : goal.returns-in_err-time
 unfolding fix_part
-returns-in_default c = (search parts depth 14, refl)
+returns-in_err-time c = search finding depth 14 fits 5000
 
-pub returns-in_default-satellites_place : goal.returns-in_default-satellites_place
+pub returns-in_err-position : goal.returns-in_err-position
 unfolding fix_part
-returns-in_default-satellites_place c = (search parts depth 14, refl)
+returns-in_err-position c = search finding depth 14 fits 5000
 
-pub returns-in-No : goal.returns-in-No
+pub returns-in_err-quality : goal.returns-in_err-quality
 unfolding fix_part
-returns-in-No c = (search parts depth 14, refl)
+returns-in_err-quality c = search finding depth 14 fits 5000
 
-pub returns-in-No-position_place : goal.returns-in-No-position_place
+pub returns-in_err-satellites : goal.returns-in_err-satellites
 unfolding fix_part
-returns-in-No-position_place c = (search parts depth 14, refl)
+returns-in_err-satellites c = search finding depth 14 fits 5000
 
-pub returns-in-Is-satellites_place : goal.returns-in-Is-satellites_place
+pub returns : goal.returns
 unfolding fix_part
-returns-in-Is-satellites_place c = (search parts depth 14, refl)
-
-pub returns-in-Number-position_place : goal.returns-in-Number-position_place
-unfolding fix_part
-returns-in-Number-position_place c = (search parts depth 14, refl)
-
-pub returns-in-Number : goal.returns-in-Number
-unfolding fix_part
-returns-in-Number c = (search parts depth 14, refl)
-
-pub returns-in-BadTime : goal.returns-in-BadTime
-unfolding fix_part
-returns-in-BadTime c = (search parts depth 14, refl)
+returns c = search finding depth 14 fits 5000

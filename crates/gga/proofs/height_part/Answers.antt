@@ -1,37 +1,24 @@
--- `height_part` meets its contract: dilution, altitude and geoid, with their units. Assumes nothing.
-use mathlib.Core.Path.{refl}
+-- `height_part` meets its contract: dilution, altitude and geoid. Assumes nothing.
+use Rattle.text.proofs.Finding.{finding}
 use Rattle.gga.specs.Gga.{height}
-use Rattle.gga.proofs.Steps.{parts}
 use Rattle.gga.proofs.height_part.Goals as goal
 
-pub returns-in_default : goal.returns-in_default
+pub returns-in_err-hdop : goal.returns-in_err-hdop
 unfolding height
-returns-in_default c = (search parts depth 14, refl)
+returns-in_err-hdop c = search finding depth 14 fits 5000
 
-pub returns-in-No : goal.returns-in-No
+pub returns-in_err-altitude : goal.returns-in_err-altitude
 unfolding height
-returns-in-No c = (search parts depth 14, refl)
+returns-in_err-altitude c = search finding depth 14 fits 5000
 
-pub returns-in-No-short_place : goal.returns-in-No-short_place
+pub returns-in_err-at : goal.returns-in_err-at
 unfolding height
-returns-in-No-short_place c = (search parts depth 14, refl)
+returns-in_err-at c = search finding depth 14 fits 5000
 
-pub returns-in-No-short_place-2 : goal.returns-in-No-short_place-2
+pub returns-in_err-geoid : goal.returns-in_err-geoid
 unfolding height
-returns-in-No-short_place-2 c = (search parts depth 14, refl)
+returns-in_err-geoid c = search finding depth 14 fits 5000
 
-pub returns-in-Is-short_place-2 : goal.returns-in-Is-short_place-2
+pub returns : goal.returns
 unfolding height
-returns-in-Is-short_place-2 c = (search parts depth 14, refl)
-
-pub returns-in-Number-short_place-2 : goal.returns-in-Number-short_place-2
-unfolding height
-returns-in-Number-short_place-2 c = (search parts depth 14, refl)
-
-pub returns-in-Number-short_place : goal.returns-in-Number-short_place
-unfolding height
-returns-in-Number-short_place c = (search parts depth 14, refl)
-
-pub returns-in-Number : goal.returns-in-Number
-unfolding height
-returns-in-Number c = (search parts depth 14, refl)
+returns c = search finding depth 14 fits 5000

@@ -1,13 +1,12 @@
--- `satellites_place` meets its contract: a number that may be absent, and a comma. Assumes nothing.
-use mathlib.Core.Path.{refl}
+-- `satellites_place` meets its contract: the count and its comma. Assumes nothing.
+use Rattle.text.proofs.Finding.{finding}
 use Rattle.fields.specs.Place.{with_comma}
-use Rattle.gga.proofs.Steps.{parts}
 use Rattle.gga.proofs.satellites_place.Goals as goal
 
-pub returns-in_default : goal.returns-in_default
+pub returns-in_err-at : goal.returns-in_err-at
 unfolding with_comma
-returns-in_default c = (search parts depth 14, refl)
+returns-in_err-at c = search finding depth 14 fits 5000
 
 pub returns : goal.returns
 unfolding with_comma
-returns c = (search parts depth 14, refl)
+returns c = search finding depth 14 fits 5000

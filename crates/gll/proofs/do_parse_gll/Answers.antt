@@ -1,38 +1,27 @@
--- `do_parse_gll` meets its contract: its fields, one after another. Assumes nothing.
-use mathlib.Core.Path.{refl}
-use Rattle.text.proofs.Texts.{text-none, text-bad, text-some}
+-- `do_parse_gll` meets its contract: position, time, status and mode, one after another. Assumes nothing.
+use Rattle.text.proofs.Finding.{finding}
+use Rattle.text.proofs.Texts.{whole}
 use Rattle.gll.specs.Gll.{gll}
-use Rattle.gll.proofs.Steps.{parts}
+use Rattle.gll.specs.Answer.{gll_data}
+use Rattle.std.specs.Prelude.{Ok}
 use Rattle.gll.proofs.do_parse_gll.Goals as goal
 
-pub returns-in_default : goal.returns-in_default
+pub returns-in_err-position : goal.returns-in_err-position
 unfolding gll
-returns-in_default c = (text-none _ gll (search parts depth 14), refl)
+returns-in_err-position c = whole _ 0 gll gll_data 0 (search finding depth 14 fits 5000)
 
-pub returns-in_default-mode : goal.returns-in_default-mode
+pub returns-in_err-time : goal.returns-in_err-time
 unfolding gll
-returns-in_default-mode c = (text-none _ gll (search parts depth 14), refl)
+returns-in_err-time c = whole _ 0 gll gll_data 0 (search finding depth 14 fits 5000)
 
-pub returns-in-No : goal.returns-in-No
+pub returns-in_err-status : goal.returns-in_err-status
 unfolding gll
-returns-in-No c = (text-none _ gll (search parts depth 14), refl)
+returns-in_err-status c = whole _ 0 gll gll_data 0 (search finding depth 14 fits 5000)
 
-pub returns-in-No-time_place : goal.returns-in-No-time_place
+pub returns-in_err-mode : goal.returns-in_err-mode
 unfolding gll
-returns-in-No-time_place c = (text-none _ gll (search parts depth 14), refl)
+returns-in_err-mode c = whole _ 0 gll gll_data 0 (search finding depth 14 fits 5000)
 
-pub returns-in-Is-mode : goal.returns-in-Is-mode
+pub returns : goal.returns
 unfolding gll
-returns-in-Is-mode c = (text-some _ gll c.in-Is-mode.field-1 (search parts depth 14), refl)
-
-pub returns-in-Number-time_place : goal.returns-in-Number-time_place
-unfolding gll
-returns-in-Number-time_place c = (text-bad _ gll (search parts depth 14), refl)
-
-pub returns-in-BadTime : goal.returns-in-BadTime
-unfolding gll
-returns-in-BadTime c = (text-bad _ gll (search parts depth 14), refl)
-
-pub returns-in-Number : goal.returns-in-Number
-unfolding gll
-returns-in-Number c = (text-bad _ gll (search parts depth 14), refl)
+returns c = whole _ 0 gll gll_data {r = Ok (record { position = c.in_ok-position.position; time = c.in_ok-time.time; status = c.in_ok-status.status; mode = c.in_ok-mode.mode })} c.in_ok-mode.field-0-1 (search finding depth 14 fits 5000)

@@ -1,17 +1,12 @@
--- `full_tail` meets its contract: it calls the readers of the definition in their order, and hands the cells on. Assumes nothing.
-use mathlib.Core.Path.{refl}
+-- `full_tail` meets its contract: it calls the readers of the definition in their order. Assumes nothing.
+use Rattle.text.proofs.Finding.{finding}
 use Rattle.gsa.specs.Gsa.{full_tail}
-use Rattle.gsa.proofs.Steps.{steps}
 use Rattle.gsa.proofs.full_tail.Goals as goal
 
-pub returns-in-No : goal.returns-in-No
+pub returns-in_err-dops : goal.returns-in_err-dops
 unfolding full_tail
-returns-in-No c = (search steps depth 12, c.prn_fields-k.ensures.1, refl)
+returns-in_err-dops c = search finding depth 14
 
-pub returns-in-Number : goal.returns-in-Number
+pub returns : goal.returns
 unfolding full_tail
-returns-in-Number c = (search steps depth 12, c.prn_fields-k.ensures.1, refl)
-
-pub returns-in-Are : goal.returns-in-Are
-unfolding full_tail
-returns-in-Are c = (search steps depth 12, c.prn_fields-k.ensures.1, refl)
+returns c = search finding depth 14

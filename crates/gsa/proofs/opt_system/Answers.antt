@@ -1,28 +1,18 @@
 -- `opt_system` meets its contract: where the comma or the number after it is missing, nothing is eaten. Assumes nothing.
-use mathlib.Core.Path.{refl, ap}
-use Rattle.text.specs.Answer.{next, whole_at}
-use Rattle.text.proofs.Places.{stop, go, done, done-as, opt-some, opt-none}
-use Rattle.text.proofs.Steps.{go-next}
-use Rattle.gsa.specs.Gsa.{after_comma, opt_system}
+use mathlib.Core.Path.{refl}
+use Rattle.std.specs.Prelude.{Some, None}
+use Rattle.text.specs.Answer.{seen, held}
+use Rattle.text.proofs.Finding.{opt-found, opt-not, go-on, done}
+use Rattle.gsa.specs.Gsa.{opt_system}
+use Rattle.gsa.proofs.Never.{never-after}
 use Rattle.gsa.proofs.opt_system.Goals as goal
 
-pub returns-in_default : goal.returns-in_default
-unfolding after_comma opt_system
-returns-in_default c =
-    (go _ (opt-none _ (stop _ c.byte.ensures.0 (ap next c.in_default.is)) refl) refl (done _ _ _), refl)
+pub returns-in-Ok : goal.returns-in-Ok
+unfolding opt_system
+returns-in-Ok c =
+    go-on _ (opt-found {look = seen held} {y = (Some c.in-Ok.n, c.in-Ok.end)} c.in-Ok.is refl refl c.after_comma.ensures) (done c.known.ensures refl)
 
-pub returns-in_default-number : goal.returns-in_default-number
-unfolding after_comma opt_system
-returns-in_default-number c = (
-  go _ (opt-none _ (go-next _ c.in-At.is c.byte.ensures.0 c.number.ensures.0) (ap whole_at c.in_default-number.is))
-      refl (done _ _ _),
-  refl,
-)
-
-pub returns : goal.returns
-unfolding after_comma opt_system
-returns c = (
-  go _ (opt-some _ (go-next _ c.in-At.is c.byte.ensures.0 c.number.ensures.0) (ap whole_at c.in-Is.is))
-      refl (done-as c.known-value.ensures),
-  refl,
-)
+pub returns-in-Err : goal.returns-in-Err
+unfolding opt_system
+returns-in-Err c =
+    go-on _ (opt-not {look = seen held} {y = (None, c.args.at)} (λ f. never-after) c.in-Err.is refl refl c.after_comma.ensures) (done refl refl)

@@ -1,50 +1,28 @@
 -- `three_dops` meets its contract: it calls the readers of the definition in their order. Assumes nothing.
-use mathlib.Core.Path.{refl}
+use Rattle.text.proofs.Finding.{finding}
 use Rattle.gsa.specs.Gsa.{dops}
-use Rattle.text.proofs.Places.{done}
-use Rattle.text.proofs.Steps.{go-next}
-use Rattle.gsa.proofs.Steps.{go-dop, steps}
 use Rattle.gsa.proofs.three_dops.Goals as goal
 
-pub returns-in_default : goal.returns-in_default
+pub returns-in_err-pdop : goal.returns-in_err-pdop
 unfolding dops
-returns-in_default c = (search steps depth 14, refl)
+returns-in_err-pdop c = search finding depth 14 fits 5000
 
-pub returns-in_default-byte : goal.returns-in_default-byte
+pub returns-in_err-at : goal.returns-in_err-at
 unfolding dops
-returns-in_default-byte c = (search steps depth 14, refl)
+returns-in_err-at c = search finding depth 14 fits 5000
 
-pub returns-in-No : goal.returns-in-No
+pub returns-in_err-hdop : goal.returns-in_err-hdop
 unfolding dops
-returns-in-No c = (search steps depth 14, refl)
+returns-in_err-hdop c = search finding depth 14 fits 5000
 
-pub returns-in-Number : goal.returns-in-Number
+pub returns-in_err-at-2 : goal.returns-in_err-at-2
 unfolding dops
-returns-in-Number c = (search steps depth 14, refl)
+returns-in_err-at-2 c = search finding depth 14 fits 5000
 
-pub returns-in-No-dop : goal.returns-in-No-dop
+pub returns-in_err-vdop : goal.returns-in_err-vdop
 unfolding dops
-returns-in-No-dop c = (search steps depth 14, refl)
+returns-in_err-vdop c = search finding depth 14 fits 5000
 
-pub returns-in-Number-dop : goal.returns-in-Number-dop
+pub returns : goal.returns
 unfolding dops
-returns-in-Number-dop c = (search steps depth 14, refl)
-
-pub returns-in-No-dop-2 : goal.returns-in-No-dop-2
-unfolding dops
-returns-in-No-dop-2 c = (search steps depth 14, refl)
-
-pub returns-in-Number-dop-2 : goal.returns-in-Number-dop-2
-unfolding dops
-returns-in-Number-dop-2 c = (search steps depth 14, refl)
-
-pub returns-in-Is-dop-2 : goal.returns-in-Is-dop-2
-unfolding dops
-returns-in-Is-dop-2 c = (
-  go-dop _ c.in-Is.is c.dop.ensures.0
-      (go-next _ c.in-At.is c.byte.ensures.0
-      (go-dop _ c.in-Is-dop.is c.dop-in-Is.ensures.0
-      (go-next _ c.in-At-byte.is c.byte-in-Is-dop.ensures.0
-      (go-dop _ c.in-Is-dop-2.is c.dop-in-Is-dop.ensures.0 (done _ _ _))))),
-  refl,
-)
+returns c = search finding depth 14 fits 5000

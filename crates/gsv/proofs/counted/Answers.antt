@@ -1,17 +1,16 @@
 -- `counted` meets its contract: a number, and its comma. Assumes nothing.
-use mathlib.Core.Path.{refl}
-use Rattle.gsv.proofs.Steps.{steps}
+use Rattle.text.proofs.Finding.{finding}
 use Rattle.gsv.specs.Gsv.{counted}
 use Rattle.gsv.proofs.counted.Goals as goal
 
-pub returns-in_default : goal.returns-in_default
+pub returns-in_err-v : goal.returns-in_err-v
 unfolding counted
-returns-in_default c = (search steps depth 12, refl)
+returns-in_err-v c = search finding depth 14
 
-pub returns-in_default-byte : goal.returns-in_default-byte
+pub returns-in_err-at : goal.returns-in_err-at
 unfolding counted
-returns-in_default-byte c = (search steps depth 12, refl)
+returns-in_err-at c = search finding depth 14
 
 pub returns : goal.returns
 unfolding counted
-returns c = (search steps depth 12, refl)
+returns c = search finding depth 14

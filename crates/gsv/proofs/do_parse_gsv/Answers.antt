@@ -1,11 +1,15 @@
 -- `do_parse_gsv` meets its contract: the head, and behind it the entries. Assumes nothing.
-use mathlib.Core.Path.{refl, ◌∙◌}
-use Rattle.gsv.proofs.Heads.{no-head, behind-head}
+use mathlib.Core.Path.{◌∙◌}
+use Rattle.text.proofs.Texts.{whole}
+use Rattle.text.proofs.Finding.{finding}
+use Rattle.gsv.specs.Gsv.{gsv}
+use Rattle.gsv.specs.Answer.{gsv_data}
+use Rattle.gsv.proofs.Heads.{behind-head}
 use Rattle.gsv.proofs.do_parse_gsv.Goals as goal
 
-pub returns-in-No : goal.returns-in-No
-returns-in-No c = (no-head c.do_parse_head.ensures.0 c.in-No.is, refl)
+pub returns-in_err-h : goal.returns-in_err-h
+unfolding gsv
+returns-in_err-h c = whole _ 0 gsv gsv_data 0 (search finding depth 14)
 
-pub returns-in-Is : goal.returns-in-Is
-returns-in-Is c =
-    (c.with_entries.ensures.0 ∙ behind-head c.do_parse_head.ensures.0 c.in-Is.is, refl)
+pub returns : goal.returns
+returns c = c.with_entries.ensures ∙ behind-head c.do_parse_head.ensures c.in_ok-h.was

@@ -1,11 +1,11 @@
 -- `opt_entry` meets its contract: what the entry answers, or nothing eaten. Assumes nothing.
-use mathlib.Core.Path.{refl, ap}
-use Rattle.text.proofs.Places.{opt-some, opt-none}
-use Rattle.gsv.specs.Answer.{entry_at}
+use mathlib.Core.Path.{refl}
+use Rattle.text.proofs.Finding.{opt-found, opt-not}
+use Rattle.gsv.proofs.Never.{never-entry}
 use Rattle.gsv.proofs.opt_entry.Goals as goal
 
-pub returns-in-Is : goal.returns-in-Is
-returns-in-Is c = (opt-some _ c.parse_gsv_sat_info.ensures.0 (ap entry_at c.in-Is.is), refl)
+pub returns-in-Ok : goal.returns-in-Ok
+returns-in-Ok c = opt-found c.in-Ok.is refl refl c.parse_gsv_sat_info.ensures
 
-pub returns-in-No : goal.returns-in-No
-returns-in-No c = (opt-none _ c.parse_gsv_sat_info.ensures.0 (ap entry_at c.in-No.is), refl)
+pub returns-in-Err : goal.returns-in-Err
+returns-in-Err c = opt-not (λ f. never-entry) c.in-Err.is refl refl c.parse_gsv_sat_info.ensures

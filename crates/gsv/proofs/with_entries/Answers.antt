@@ -1,12 +1,10 @@
 -- `with_entries` meets its contract: four entries that may be absent. Assumes nothing.
-use mathlib.Core.Path.{refl}
-use Rattle.text.proofs.Texts.{some-at}
+use Rattle.std.specs.Prelude.{Ok}
+use Rattle.text.proofs.Texts.{whole}
+use Rattle.text.proofs.Finding.{finding}
 use Rattle.gsv.specs.Gsv.{with_entries}
-use Rattle.gsv.specs.Answer.{head_of}
-use Rattle.gsv.proofs.Steps.{steps}
+use Rattle.gsv.specs.Answer.{head_of, gsv_data}
 use Rattle.gsv.proofs.with_entries.Goals as goal
 
 pub returns : goal.returns
-returns c =
-    let a = c.args in
-    (some-at a.s.now (with_entries (head_of a.h)) {at = a.at} c.opt_entry-r4.result.at (search steps depth 12), refl)
+returns c = whole _ c.args.at (with_entries (head_of c.args.h)) gsv_data {r = Ok _} c.opt_entry-fourth.result.1 (search finding depth 14)

@@ -1,12 +1,13 @@
 -- Framing first, then the checksum of the sentence that it found. Assumes nothing.
-use mathlib.Core.Path.{refl}
-use Rattle.held.proofs.Told.{told-is, told-refused}
+use mathlib.Core.Path.{ap, ◌∙◌}
+use Rattle.frame.proofs.Handed.{handed}
+use Rattle.held.specs.Calculated.{sum_in}
+use Rattle.held.specs.Answer.{summed}
+use Rattle.held.proofs.Told.{told-is}
 use Rattle.held.proofs.calculate.Goals as goal
 
-pub returns-in-Is : goal.returns-in-Is
-returns-in-Is c =
-    (told-is c.args.line.now c.parse_nmea_sentence.ensures.0 c.in-Is.x c.in-Is.is c.line_checksum.ensures.0, refl)
+pub returns-in_err-framed : goal.returns-in_err-framed
+returns-in_err-framed c = ap summed (handed _ c.from_residual.ensures) ∙ ap sum_in c.in_err-framed.ensures
 
-pub returns-in-Refused : goal.returns-in-Refused
-returns-in-Refused c =
-    (told-refused c.args.line.now c.parse_nmea_sentence.ensures.0 c.in-Refused.is, refl)
+pub returns : goal.returns
+returns c = told-is c.args.line.now c.in_ok-framed.framed c.in_ok-framed.ensures c.line_checksum.ensures

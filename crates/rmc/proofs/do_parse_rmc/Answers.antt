@@ -1,38 +1,23 @@
 -- `do_parse_rmc` meets its contract: the three parts, one after another. Assumes nothing.
-use mathlib.Core.Path.{refl}
-use Rattle.text.proofs.Texts.{text-none, text-bad, text-some}
+use Rattle.text.proofs.Finding.{finding}
+use Rattle.text.proofs.Texts.{whole}
 use Rattle.rmc.specs.Rmc.{rmc}
-use Rattle.rmc.proofs.Steps.{parts}
+use Rattle.rmc.specs.Answer.{rmc_data}
+use Rattle.std.specs.Prelude.{Ok}
 use Rattle.rmc.proofs.do_parse_rmc.Goals as goal
 
-pub returns-in-No : goal.returns-in-No
+pub returns-in_err-fix : goal.returns-in_err-fix
 unfolding rmc
-returns-in-No c = (text-none c.args.s.now rmc (search parts depth 14), refl)
+returns-in_err-fix c = whole _ 0 rmc rmc_data 0 (search finding depth 14 fits 5000)
 
-pub returns-in-No-motion_part : goal.returns-in-No-motion_part
+pub returns-in_err-motion : goal.returns-in_err-motion
 unfolding rmc
-returns-in-No-motion_part c = (text-none c.args.s.now rmc (search parts depth 14), refl)
+returns-in_err-motion c = whole _ 0 rmc rmc_data 0 (search finding depth 14 fits 5000)
 
-pub returns-in-No-ending_part : goal.returns-in-No-ending_part
+pub returns-in_err-ending : goal.returns-in_err-ending
 unfolding rmc
-returns-in-No-ending_part c = (text-none c.args.s.now rmc (search parts depth 14), refl)
+returns-in_err-ending c = whole _ 0 rmc rmc_data 0 (search finding depth 14 fits 5000)
 
-pub returns-in-Is-ending_part : goal.returns-in-Is-ending_part
+pub returns : goal.returns
 unfolding rmc
-returns-in-Is-ending_part c = (text-some c.args.s.now rmc c.in-Is-ending_part.field-1 (search parts depth 14), refl)
-
-pub returns-in-Number-ending_part : goal.returns-in-Number-ending_part
-unfolding rmc
-returns-in-Number-ending_part c = (text-bad c.args.s.now rmc (search parts depth 14), refl)
-
-pub returns-in-Number-motion_part : goal.returns-in-Number-motion_part
-unfolding rmc
-returns-in-Number-motion_part c = (text-bad c.args.s.now rmc (search parts depth 14), refl)
-
-pub returns-in-Number : goal.returns-in-Number
-unfolding rmc
-returns-in-Number c = (text-bad c.args.s.now rmc (search parts depth 14), refl)
-
-pub returns-in-BadTime : goal.returns-in-BadTime
-unfolding rmc
-returns-in-BadTime c = (text-bad c.args.s.now rmc (search parts depth 14), refl)
+returns c = whole _ 0 rmc rmc_data {r = Ok (record { fix = c.in_ok-fix.fix; motion = c.in_ok-motion.motion; ending = c.in_ok-ending.ending })} c.in_ok-ending.field-0-1 (search finding depth 14 fits 5000)

@@ -1,17 +1,12 @@
--- `ending_part` meets its contract: the variation and the letters behind it. Assumes nothing.
-use mathlib.Core.Path.{refl}
+-- `ending_part` meets its contract: variation, and the letters behind it. Assumes nothing.
+use Rattle.text.proofs.Finding.{finding}
 use Rattle.rmc.specs.Rmc.{ending}
-use Rattle.rmc.proofs.Steps.{parts}
 use Rattle.rmc.proofs.ending_part.Goals as goal
 
-pub returns-in-No : goal.returns-in-No
+pub returns-in_err-variation : goal.returns-in_err-variation
 unfolding ending
-returns-in-No c = (search parts depth 14, refl)
+returns-in_err-variation c = search finding depth 14 fits 5000
 
-pub returns-in-Is : goal.returns-in-Is
+pub returns : goal.returns
 unfolding ending
-returns-in-Is c = (search parts depth 14, refl)
-
-pub returns-in-Number : goal.returns-in-Number
-unfolding ending
-returns-in-Number c = (search parts depth 14, refl)
+returns c = search finding depth 14 fits 5000

@@ -1,33 +1,20 @@
 -- `fix_part` meets its contract: time, status and position. Assumes nothing.
-use mathlib.Core.Path.{refl}
+use Rattle.text.proofs.Finding.{finding}
 use Rattle.rmc.specs.Rmc.{fix_part}
-use Rattle.rmc.proofs.Steps.{parts}
 use Rattle.rmc.proofs.fix_part.Goals as goal
 
-pub returns-in_default : goal.returns-in_default
+pub returns-in_err-time : goal.returns-in_err-time
 unfolding fix_part
-returns-in_default c = (search parts depth 14, refl)
+returns-in_err-time c = search finding depth 14 fits 5000
 
-pub returns-in-No : goal.returns-in-No
+pub returns-in_err-status : goal.returns-in_err-status
 unfolding fix_part
-returns-in-No c = (search parts depth 14, refl)
+returns-in_err-status c = search finding depth 14 fits 5000
 
-pub returns-in-No-position_place : goal.returns-in-No-position_place
+pub returns-in_err-position : goal.returns-in_err-position
 unfolding fix_part
-returns-in-No-position_place c = (search parts depth 14, refl)
+returns-in_err-position c = search finding depth 14 fits 5000
 
-pub returns-in-Is-position_place : goal.returns-in-Is-position_place
+pub returns : goal.returns
 unfolding fix_part
-returns-in-Is-position_place c = (search parts depth 14, refl)
-
-pub returns-in-Number-position_place : goal.returns-in-Number-position_place
-unfolding fix_part
-returns-in-Number-position_place c = (search parts depth 14, refl)
-
-pub returns-in-Number : goal.returns-in-Number
-unfolding fix_part
-returns-in-Number c = (search parts depth 14, refl)
-
-pub returns-in-BadTime : goal.returns-in-BadTime
-unfolding fix_part
-returns-in-BadTime c = (search parts depth 14, refl)
+returns c = search finding depth 14 fits 5000

@@ -1,16 +1,23 @@
--- `one_among` meets its contract: by the byte that stands there, and what `has` says of it. Assumes nothing.
+-- `one_among` meets its contract: by the byte that stands there, and whether the list has it. Assumes nothing.
+use mathlib.Core.Path.{sym, ◌∙◌}
 use native.Mathlib.Omega.{arith}
-use mathlib.Core.Path.{refl, sym, ◌∙◌}
-use Rattle.text.proofs.Places.{a-read, no-read}
-use Rattle.text.proofs.Letters.{among-past, among-got, among-miss}
+use Rattle.text.proofs.Places.{a-read, no-read, not-there}
+use Rattle.text.proofs.Letters.{among-any, among-past, among-got, among-miss}
 use Rattle.text.proofs.one_among.Goals as goal
 
-pub returns-then-s-at : goal.returns-then-s-at
-returns-then-s-at c = (no-read (among-past _ _ _ c.if-s-at.true), refl, refl)
+pub returns-in-Some : goal.returns-in-Some
+returns-in-Some c =
+    let h = c.in-Some.ensures.lookup.3.0 in
+    let e = sym (c.in-Some.ensures.lookup.3.1 0) in
+    let m = sym (among-any _ _) ∙ sym c.contains.ensures.value ∙ c.if-contains.true in
+    record { reads = rw (sym e) (a-read (among-got _ _ _ h (rw e m)) (omega arith) (omega arith)) }
 
-pub returns-then-has : goal.returns-then-has
-returns-then-has c =
-    (a-read (among-got _ _ _ c.if-s-at.false (sym c.has.ensures.0 ∙ c.if-has.true)) (omega arith) (omega arith), refl, refl)
+pub returns-in_default : goal.returns-in_default
+returns-in_default c =
+    let h = c.in-Some.ensures.lookup.3.0 in
+    let e = sym (c.in-Some.ensures.lookup.3.1 0) in
+    let m = sym (among-any _ _) ∙ sym c.contains.ensures.value ∙ c.if-contains.false in
+    record { reads = no-read (among-miss _ _ _ h (rw e m)) }
 
-pub returns : goal.returns
-returns c = (no-read (among-miss _ _ _ c.if-s-at.false (sym c.has.ensures.0 ∙ c.if-has.false)), refl, refl)
+pub returns-in_default-2 : goal.returns-in_default-2
+returns-in_default-2 c = record { reads = no-read (among-past _ _ _ (not-there _ _ _ c.get.ensures.lookup.0 c.in_default.is)) }

@@ -1,6 +1,6 @@
 -- `until` meets its contract: none of the bytes passed so far is the one that is looked for, so the first that is ends the text. Assumes nothing.
 use native.Mathlib.Omega.{arith}
-use mathlib.Core.Path.{refl, ◌∙◌}
+use mathlib.Core.Path.{◌∙◌}
 use Rattle.text.proofs.Places.{a-read, no-read}
 use Rattle.text.proofs.Parts.{until-start, until-stop, until-more, until-end}
 use Rattle.text.proofs.until.Goals as goal
@@ -12,7 +12,7 @@ pub returns-then-s-i : goal.returns-then-s-i
 returns-then-s-i c =
     let k = c.loop-i in
     let a = c.args in
-    (a-read (k.invariant.2 ∙ until-stop a.s.now a.at _ _ c.loop-i-test.true c.if-s-i.true) k.invariant.0 k.invariant.1, refl)
+    record { reads = a-read (k.invariant.2 ∙ until-stop a.s.now a.at _ _ c.loop-i-test.true c.if-s-i.true) k.invariant.0 k.invariant.1 }
 
 pub loop-i-preserved : goal.loop-i-preserved
 loop-i-preserved c =
@@ -23,4 +23,4 @@ loop-i-preserved c =
 pub returns : goal.returns
 returns c =
     let a = c.args in
-    (no-read (c.loop-i.invariant.2 ∙ until-end a.s.now a.at _ _ c.loop-i-test.false), refl)
+    record { reads = no-read (c.loop-i.invariant.2 ∙ until-end a.s.now a.at _ _ c.loop-i-test.false) }

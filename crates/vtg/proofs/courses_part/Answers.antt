@@ -1,33 +1,24 @@
--- `courses_part` meets its contract: two courses with their units. Assumes nothing.
-use mathlib.Core.Path.{refl}
+-- `courses_part` meets its contract: both courses, each with its unit. Assumes nothing.
+use Rattle.text.proofs.Finding.{finding}
 use Rattle.vtg.specs.Vtg.{courses}
-use Rattle.vtg.proofs.Steps.{parts}
 use Rattle.vtg.proofs.courses_part.Goals as goal
 
-pub returns-in_default : goal.returns-in_default
+pub returns-in_err-course : goal.returns-in_err-course
 unfolding courses
-returns-in_default c = (search parts depth 14, refl)
+returns-in_err-course c = search finding depth 14 fits 5000
 
-pub returns-in_default-unit_place : goal.returns-in_default-unit_place
+pub returns-in_err-at : goal.returns-in_err-at
 unfolding courses
-returns-in_default-unit_place c = (search parts depth 14, refl)
+returns-in_err-at c = search finding depth 14 fits 5000
 
-pub returns-in-No : goal.returns-in-No
+pub returns-in_err-at-2 : goal.returns-in_err-at-2
 unfolding courses
-returns-in-No c = (search parts depth 14, refl)
+returns-in_err-at-2 c = search finding depth 14 fits 5000
 
-pub returns-in-No-short_place : goal.returns-in-No-short_place
+pub returns-in_err-at-3 : goal.returns-in_err-at-3
 unfolding courses
-returns-in-No-short_place c = (search parts depth 14, refl)
+returns-in_err-at-3 c = search finding depth 14 fits 5000
 
-pub returns-in-At-unit_place : goal.returns-in-At-unit_place
+pub returns : goal.returns
 unfolding courses
-returns-in-At-unit_place c = (search parts depth 14, refl)
-
-pub returns-in-Number-short_place : goal.returns-in-Number-short_place
-unfolding courses
-returns-in-Number-short_place c = (search parts depth 14, refl)
-
-pub returns-in-Number : goal.returns-in-Number
-unfolding courses
-returns-in-Number c = (search parts depth 14, refl)
+returns c = search finding depth 14 fits 5000

@@ -1,26 +1,19 @@
 -- `do_parse_vtg` meets its contract: the two parts, one after another. Assumes nothing.
-use mathlib.Core.Path.{refl}
-use Rattle.text.proofs.Texts.{text-none, text-bad, text-some}
+use Rattle.text.proofs.Finding.{finding}
+use Rattle.text.proofs.Texts.{whole}
 use Rattle.vtg.specs.Vtg.{vtg}
-use Rattle.vtg.proofs.Steps.{parts}
+use Rattle.vtg.specs.Answer.{vtg_data}
+use Rattle.std.specs.Prelude.{Ok}
 use Rattle.vtg.proofs.do_parse_vtg.Goals as goal
 
-pub returns-in-No : goal.returns-in-No
+pub returns-in_err-course : goal.returns-in_err-course
 unfolding vtg
-returns-in-No c = (text-none _ vtg (search parts depth 14), refl)
+returns-in_err-course c = whole _ 0 vtg vtg_data 0 (search finding depth 14 fits 5000)
 
-pub returns-in-No-speed_part : goal.returns-in-No-speed_part
+pub returns-in_err-speed : goal.returns-in_err-speed
 unfolding vtg
-returns-in-No-speed_part c = (text-none _ vtg (search parts depth 14), refl)
+returns-in_err-speed c = whole _ 0 vtg vtg_data 0 (search finding depth 14 fits 5000)
 
-pub returns-in-Is-speed_part : goal.returns-in-Is-speed_part
+pub returns : goal.returns
 unfolding vtg
-returns-in-Is-speed_part c = (text-some _ vtg c.in-Is-speed_part.field-1 (search parts depth 14), refl)
-
-pub returns-in-Number-speed_part : goal.returns-in-Number-speed_part
-unfolding vtg
-returns-in-Number-speed_part c = (text-bad _ vtg (search parts depth 14), refl)
-
-pub returns-in-Number : goal.returns-in-Number
-unfolding vtg
-returns-in-Number c = (text-bad _ vtg (search parts depth 14), refl)
+returns c = whole _ 0 vtg vtg_data {r = Ok (record { course = c.in_ok-course.course; speed = c.in_ok-speed.speed })} c.in_ok-speed.field-0-1 (search finding depth 14 fits 5000)

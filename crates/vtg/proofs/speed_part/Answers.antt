@@ -1,25 +1,16 @@
--- `speed_part` meets its contract: two speeds with their units, of which one is kept. Assumes nothing.
-use mathlib.Core.Path.{refl}
+-- `speed_part` meets its contract: both speeds, each with its unit. Assumes nothing.
+use Rattle.text.proofs.Finding.{finding}
 use Rattle.vtg.specs.Vtg.{speed}
-use Rattle.vtg.proofs.Steps.{parts}
 use Rattle.vtg.proofs.speed_part.Goals as goal
 
-pub returns-in-No : goal.returns-in-No
+pub returns-in_err-knots : goal.returns-in_err-knots
 unfolding speed
-returns-in-No c = (search parts depth 14, refl)
+returns-in_err-knots c = search finding depth 14 fits 5000
 
-pub returns-in-No-short_place : goal.returns-in-No-short_place
+pub returns-in_err-kmh : goal.returns-in_err-kmh
 unfolding speed
-returns-in-No-short_place c = (search parts depth 14, refl)
+returns-in_err-kmh c = search finding depth 14 fits 5000
 
-pub returns-in-Is-short_place : goal.returns-in-Is-short_place
+pub returns : goal.returns
 unfolding speed
-returns-in-Is-short_place c = (search parts depth 14, refl)
-
-pub returns-in-Number-short_place : goal.returns-in-Number-short_place
-unfolding speed
-returns-in-Number-short_place c = (search parts depth 14, refl)
-
-pub returns-in-Number : goal.returns-in-Number
-unfolding speed
-returns-in-Number c = (search parts depth 14, refl)
+returns c = search finding depth 14 fits 5000

@@ -1,40 +1,31 @@
 -- `put_entry` meets its contract: eight words, two at a time. Assumes nothing.
-use Rattle.std.proofs.Common.{ℕ, ◌+◌, ◌*◌, get_or, refl, ◌∙◌, arith, length-set}
+use Rattle.std.proofs.Common.{ℕ, ◌+◌, ◌*◌, get_or, refl, arith, length-set}
 use Rattle.gather.specs.Words.{number_of}
-use Rattle.capi.proofs.Lending.{two-long, entry-room, entry-stored}
+use Rattle.capi.proofs.Lending.{entry-room, entry-stored}
 use Rattle.capi.proofs.lend.put_entry.Goals as goal
 
-pub overflow_cast-out : goal.overflow_cast-out
-overflow_cast-out c = let a = c.args in omega (arith, c.shared_slice_known-5-1.given (4 + a.i * 4))
-
 pub bounds-out-to-2 : goal.bounds-out-to-2
-bounds-out-to-2 c = let a = c.args in omega (arith, c.requires.2, c.requires.1, length-set a.out.now (5 + a.i * 8) 1)
+bounds-out-to-2 c = let a = c.args in omega (arith, c.requires.room, c.requires.cell, length-set a.out.now (5 + a.i * 8) 1)
 
 pub put_option-requires : goal.put_option-requires
 put_option-requires c =
     let a = c.args in
     let p = c.requires in
-    (entry-room a.out.now a.i (get_or a.row.now (4 + a.i * 4) 0) 2 p.1 p.2 (omega arith), omega (arith, p.1))
+    record { room = entry-room a.out.now a.i (get_or a.row.now (4 + a.i * 4) 0) 2 p.cell p.room (omega arith); near = omega (arith, p.cell) }
 
 pub put_option-requires-2 : goal.put_option-requires-2
 put_option-requires-2 c =
     let a = c.args in
     let p = c.requires in
-    let n = entry-room a.out.now a.i (get_or a.row.now (4 + a.i * 4) 0) 4 p.1 p.2 (omega arith) in
-    (omega (arith, n, c.out-1.given), omega (arith, p.1))
+    let n = entry-room a.out.now a.i (get_or a.row.now (4 + a.i * 4) 0) 4 p.cell p.room (omega arith) in
+    record { room = omega (arith, n); near = omega (arith, p.cell) }
 
 pub put_option-requires-3 : goal.put_option-requires-3
 put_option-requires-3 c =
     let a = c.args in
     let p = c.requires in
-    let n = entry-room a.out.now a.i (get_or a.row.now (4 + a.i * 4) 0) 6 p.1 p.2 (omega arith) in
-    (omega (arith, n, c.out-1.given, c.out-2-1.given), omega (arith, p.1))
-
-pub shape_of-out : goal.shape_of-out
-shape_of-out c =
-    let a = c.args in
-    c.out-3-1.given ∙ c.out-2-1.given ∙ c.out-1.given
-    ∙ two-long a.out.now (5 + a.i * 8) 1 (5 + a.i * 8 + 1) (get_or a.row.now (4 + a.i * 4) 0)
+    let n = entry-room a.out.now a.i (get_or a.row.now (4 + a.i * 4) 0) 6 p.cell p.room (omega arith) in
+    record { room = omega (arith, n); near = omega (arith, p.cell) }
 
 pub returns : goal.returns
 returns c =

@@ -1,11 +1,11 @@
 -- `opt_date` meets its contract: what `parse_date` answers, or nothing eaten. Assumes nothing.
-use mathlib.Core.Path.{refl, ap}
-use Rattle.text.proofs.Places.{opt-some, opt-none}
-use Rattle.fields.specs.Answer.{date_read}
+use mathlib.Core.Path.{refl}
+use Rattle.text.proofs.Finding.{opt-found, opt-not}
+use Rattle.fields.proofs.Number.{never-day}
 use Rattle.fields.proofs.date.opt_date.Goals as goal
 
-pub returns-in-No : goal.returns-in-No
-returns-in-No c = (opt-none _ c.parse_date.ensures.0 (ap date_read c.in-No.is), refl)
+pub returns-in-Ok : goal.returns-in-Ok
+returns-in-Ok c = opt-found c.in-Ok.is refl refl c.parse_date.ensures
 
-pub returns-in-Is : goal.returns-in-Is
-returns-in-Is c = (opt-some _ c.parse_date.ensures.0 (ap date_read c.in-Is.is), refl)
+pub returns-in-Err : goal.returns-in-Err
+returns-in-Err c = opt-not (λ f. never-day) c.in-Err.is refl refl c.parse_date.ensures

@@ -1,17 +1,16 @@
 -- `letter_place` meets its contract: a letter and a comma. Assumes nothing.
-use mathlib.Core.Path.{refl}
+use Rattle.text.proofs.Finding.{finding}
 use Rattle.fields.specs.Place.{with_comma}
-use Rattle.fields.proofs.Steps.{commas}
 use Rattle.fields.proofs.letter.letter_place.Goals as goal
 
-pub returns-in_default : goal.returns-in_default
+pub returns-in_err-letter : goal.returns-in_err-letter
 unfolding with_comma
-returns-in_default c = (search commas depth 14, refl, refl)
+returns-in_err-letter c = search finding depth 14
 
-pub returns-in_default-byte : goal.returns-in_default-byte
+pub returns-in_err-at : goal.returns-in_err-at
 unfolding with_comma
-returns-in_default-byte c = (search commas depth 14, refl, refl)
+returns-in_err-at c = search finding depth 14
 
 pub returns : goal.returns
 unfolding with_comma
-returns c = (search commas depth 14, refl, refl)
+returns c = search finding depth 14

@@ -1,17 +1,16 @@
 -- `commas` meets its contract: a comma, three times. Assumes nothing.
-use mathlib.Core.Path.{refl}
-use Rattle.fields.proofs.Steps.{steps}
+use Rattle.text.proofs.Finding.{finding}
 use Rattle.fields.specs.Position.{commas}
 use Rattle.fields.proofs.position.commas.Goals as goal
 
-pub returns-in_default : goal.returns-in_default
+pub returns-in_err-at : goal.returns-in_err-at
 unfolding commas
-returns-in_default c = (search steps depth 14, refl)
+returns-in_err-at c = search finding depth 14
 
-pub returns-in_default-byte : goal.returns-in_default-byte
+pub returns-in_err-at-2 : goal.returns-in_err-at-2
 unfolding commas
-returns-in_default-byte c = (search steps depth 14, refl)
+returns-in_err-at-2 c = search finding depth 14
 
 pub returns : goal.returns
 unfolding commas
-returns c = (search steps depth 14, refl)
+returns c = search finding depth 14

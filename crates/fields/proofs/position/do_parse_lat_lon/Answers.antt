@@ -1,29 +1,20 @@
 -- `do_parse_lat_lon` meets its contract: latitude, a comma, longitude. Assumes nothing.
-use mathlib.Core.Path.{refl}
-use Rattle.fields.proofs.Steps.{steps}
+use Rattle.text.proofs.Finding.{finding}
 use Rattle.fields.specs.Position.{do_lat_lon}
 use Rattle.fields.proofs.position.do_parse_lat_lon.Goals as goal
 
-pub returns-in_default : goal.returns-in_default
+pub returns-in_err-lat : goal.returns-in_err-lat
 unfolding do_lat_lon
-returns-in_default c = (search steps depth 14, refl)
+returns-in_err-lat c = search finding depth 14
 
-pub returns-in-No : goal.returns-in-No
+pub returns-in_err-at : goal.returns-in_err-at
 unfolding do_lat_lon
-returns-in-No c = (search steps depth 14, refl)
+returns-in_err-at c = search finding depth 14
 
-pub returns-in-No-longitude : goal.returns-in-No-longitude
+pub returns-in_err-lon : goal.returns-in_err-lon
 unfolding do_lat_lon
-returns-in-No-longitude c = (search steps depth 14, refl)
+returns-in_err-lon c = search finding depth 14
 
-pub returns-in-Is-longitude : goal.returns-in-Is-longitude
+pub returns : goal.returns
 unfolding do_lat_lon
-returns-in-Is-longitude c = (search steps depth 14, refl)
-
-pub returns-in-Number-longitude : goal.returns-in-Number-longitude
-unfolding do_lat_lon
-returns-in-Number-longitude c = (search steps depth 14, refl)
-
-pub returns-in-Number : goal.returns-in-Number
-unfolding do_lat_lon
-returns-in-Number c = (search steps depth 14, refl)
+returns c = search finding depth 14

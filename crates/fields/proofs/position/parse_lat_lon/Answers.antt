@@ -1,22 +1,18 @@
 -- `parse_lat_lon` meets its contract: the one form, or else the other. Assumes nothing.
 use mathlib.Core.Path.{refl}
-use Rattle.fields.proofs.Steps.{steps}
-use Rattle.text.proofs.Places.{alt-first, alt-second}
+use Rattle.text.proofs.Finding.{finding, go-on, done, alt-found, alt-not}
 use Rattle.fields.specs.Position.{lat_lon}
+use Rattle.fields.proofs.Number.{never-commas}
 use Rattle.fields.proofs.position.parse_lat_lon.Goals as goal
 
-pub returns-in-At : goal.returns-in-At
+pub returns-in-Ok : goal.returns-in-Ok
 unfolding lat_lon
-returns-in-At c = (alt-first _ (search steps depth 14), refl)
+returns-in-Ok c = alt-found _ (go-on _ c.in-Ok.ensures (done refl refl))
 
-pub returns-in-No-do_parse_lat_lon : goal.returns-in-No-do_parse_lat_lon
+pub returns-in_err-both : goal.returns-in_err-both
 unfolding lat_lon
-returns-in-No-do_parse_lat_lon c = (alt-second _ _ (search steps depth 14) (search steps depth 14), refl)
+returns-in_err-both c = alt-not _ _ (λ f. never-commas) c.in_default.ensures (search finding depth 14)
 
-pub returns-in-Is : goal.returns-in-Is
+pub returns : goal.returns
 unfolding lat_lon
-returns-in-Is c = (alt-second _ _ (search steps depth 14) (search steps depth 14), refl)
-
-pub returns-in-Number : goal.returns-in-Number
-unfolding lat_lon
-returns-in-Number c = (alt-second _ _ (search steps depth 14) (search steps depth 14), refl)
+returns c = alt-not _ _ (λ f. never-commas) c.in_default.ensures (search finding depth 14)

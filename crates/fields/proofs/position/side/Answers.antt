@@ -1,29 +1,28 @@
 -- `side` meets its contract: minutes, a comma, a letter, and the position that they make. Assumes nothing.
-use mathlib.Core.Path.{refl}
-use Rattle.fields.proofs.Steps.{steps}
+use Rattle.text.proofs.Finding.{finding}
 use Rattle.decimal.proofs.Facts.{long-held}
 use Rattle.fields.specs.Position.{side}
 use Rattle.fields.proofs.position.side.Goals as goal
 
-pub returns-in_default : goal.returns-in_default
+pub returns-in_err-minutes : goal.returns-in_err-minutes
 unfolding side
-returns-in_default c = (search steps depth 14, refl)
+returns-in_err-minutes c = search finding depth 14
 
-pub returns-in_default-one_of : goal.returns-in_default-one_of
+pub returns-in_err-minutes-2 : goal.returns-in_err-minutes-2
 unfolding side
-returns-in_default-one_of c = (search steps depth 14, refl)
+returns-in_err-minutes-2 c = search finding depth 14
 
-pub located-c-requires : goal.located-c-requires
-located-c-requires c = (long-held c.long_decimal.ensures.0 c.in-Is.is).small
-
-pub returns-in-Absent : goal.returns-in-Absent
+pub returns-in_err-at : goal.returns-in_err-at
 unfolding side
-returns-in-Absent c = (search steps depth 14, refl)
+returns-in_err-at c = search finding depth 14
 
-pub returns-in-Is-one_of : goal.returns-in-Is-one_of
+pub returns-in_err-letter : goal.returns-in_err-letter
 unfolding side
-returns-in-Is-one_of c = (rw c.located-c.ensures (search steps depth 14), refl)
+returns-in_err-letter c = search finding depth 14 fits 5000
 
-pub returns-in-Number : goal.returns-in-Number
+pub located-requires : goal.located-requires
+located-requires c = (long-held c.in_ok-minutes.ensures c.in_ok-minutes-2.ensures.ok_part).small
+
+pub returns : goal.returns
 unfolding side
-returns-in-Number c = (search steps depth 14, refl)
+returns c = search finding depth 14 fits 5000

@@ -1,33 +1,54 @@
 -- `parse_hms` meets its contract: two numbers, the seconds, and what the clock says of them. Assumes nothing.
-use mathlib.Core.Path.{refl}
+use Rattle.text.proofs.Finding.{finding, go-on, present, handed}
 use Rattle.decimal.proofs.Facts.{long-held}
 use Rattle.fields.specs.Time.{hms}
-use Rattle.fields.proofs.Steps.{steps}
+use Rattle.fields.proofs.Steps.{signed, unsigned}
 use Rattle.fields.proofs.time.parse_hms.Goals as goal
 
-pub returns-in_default : goal.returns-in_default
+pub returns-in_err-hour : goal.returns-in_err-hour
 unfolding hms
-returns-in_default c = (search steps depth 14, refl)
+returns-in_err-hour c = search finding
 
-pub returns-in_default-two : goal.returns-in_default-two
+pub returns-in_err-minute : goal.returns-in_err-minute
 unfolding hms
-returns-in_default-two c = (search steps depth 14, refl)
+returns-in_err-minute c = go-on _ c.in_ok-hour.ensures (search finding)
 
-pub returns-then-d : goal.returns-then-d
+pub returns-in_err-seconds : goal.returns-in_err-seconds
 unfolding hms
-returns-then-d c = (search steps depth 14, refl)
+returns-in_err-seconds c = go-on _ c.in_ok-hour.ensures (go-on _ c.in_ok-minute.ensures (search finding))
 
-pub on_clock-requires : goal.on_clock-requires
-on_clock-requires c = let f = long-held c.long_decimal.ensures.0 c.in-Is-long_decimal.is in (f.few, f.scaled)
-
-pub returns-in-Absent : goal.returns-in-Absent
+pub returns-in_err-seconds-2 : goal.returns-in_err-seconds-2
 unfolding hms
-returns-in-Absent c = (search steps depth 14, refl)
+returns-in_err-seconds-2 c = go-on _ c.in_ok-hour.ensures (go-on _ c.in_ok-minute.ensures (go-on _ c.in_ok-seconds.ensures (search finding)))
 
-pub returns-else-d : goal.returns-else-d
+pub returns-then-seconds : goal.returns-then-seconds
 unfolding hms
-returns-else-d c = (search steps depth 14, refl)
+returns-then-seconds c =
+    go-on _ c.in_ok-hour.ensures
+    (go-on _ c.in_ok-minute.ensures
+    (go-on _ c.in_ok-seconds.ensures (search (finding, signed))))
 
-pub returns-in-Number : goal.returns-in-Number
+pub on_clock-requires-clause-decimals : goal.on_clock-requires-clause-decimals
+on_clock-requires-clause-decimals c = (long-held c.in_ok-seconds.ensures c.in_ok-seconds-2.ensures.ok_part).few
+
+pub on_clock-requires-clause-billionths : goal.on_clock-requires-clause-billionths
+on_clock-requires-clause-billionths c = (long-held c.in_ok-seconds.ensures c.in_ok-seconds-2.ensures.ok_part).scaled
+
+pub returns-in_err-time : goal.returns-in_err-time
 unfolding hms
-returns-in-Number c = (search steps depth 14, refl)
+returns-in_err-time c =
+    go-on _ c.in_ok-hour.ensures
+    (go-on _ c.in_ok-minute.ensures
+    (go-on _ c.in_ok-seconds.ensures
+    (present _ _ _ c.ok_or.ensures.value c.branch-seconds-2.ensures c.in_ok-seconds-2.is
+    (unsigned _ _ c.if-seconds.false
+    (record { reads = rw (handed _ c.from_residual-in_err-time.ensures) (c.in_err-time.ensures c.args.s.now c.in_ok-seconds.at).reads })))))
+
+pub returns : goal.returns
+unfolding hms
+returns c =
+    go-on _ c.in_ok-hour.ensures
+    (go-on _ c.in_ok-minute.ensures
+    (go-on _ c.in_ok-seconds.ensures
+    (present _ _ _ c.ok_or.ensures.value c.branch-seconds-2.ensures c.in_ok-seconds-2.is
+    (unsigned _ _ c.if-seconds.false (record { reads = (c.in_ok-time.ensures c.args.s.now c.in_ok-seconds.at).reads })))))

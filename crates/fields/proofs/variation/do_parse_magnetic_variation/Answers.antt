@@ -1,29 +1,28 @@
 -- `do_parse_magnetic_variation` meets its contract: a decimal, a comma, a letter, and W negates. Assumes nothing.
-use mathlib.Core.Path.{refl}
-use Rattle.fields.proofs.Steps.{steps}
+use Rattle.text.proofs.Finding.{finding}
 use Rattle.decimal.proofs.Facts.{short-held}
 use Rattle.fields.specs.Variation.{do_variation}
 use Rattle.fields.proofs.variation.do_parse_magnetic_variation.Goals as goal
 
-pub returns-in_default : goal.returns-in_default
+pub returns-in_err-d : goal.returns-in_err-d
 unfolding do_variation
-returns-in_default c = (search steps depth 14, refl)
+returns-in_err-d c = search finding depth 14
 
-pub returns-in_default-one_of : goal.returns-in_default-one_of
+pub returns-in_err-d-2 : goal.returns-in_err-d-2
 unfolding do_variation
-returns-in_default-one_of c = (search steps depth 14, refl)
+returns-in_err-d-2 c = search finding depth 14
 
-pub turned-v-requires : goal.turned-v-requires
-turned-v-requires c = (short-held c.short_decimal.ensures.0 c.in-Is.is).small
-
-pub returns-in-Absent : goal.returns-in-Absent
+pub returns-in_err-at : goal.returns-in_err-at
 unfolding do_variation
-returns-in-Absent c = (search steps depth 14, refl)
+returns-in_err-at c = search finding depth 14
 
-pub returns-in-Is-one_of : goal.returns-in-Is-one_of
+pub returns-in_err-letter : goal.returns-in_err-letter
 unfolding do_variation
-returns-in-Is-one_of c = (rw c.turned-v.ensures (search steps depth 14), refl)
+returns-in_err-letter c = search finding depth 14 fits 5000
 
-pub returns-in-Number : goal.returns-in-Number
+pub turned-requires : goal.turned-requires
+turned-requires c = (short-held c.in_ok-d.ensures c.in_ok-d-2.ensures.ok_part).small
+
+pub returns : goal.returns
 unfolding do_variation
-returns-in-Number c = (search steps depth 14, refl)
+returns c = search finding depth 14 fits 5000

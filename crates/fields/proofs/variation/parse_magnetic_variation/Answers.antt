@@ -1,22 +1,18 @@
 -- `parse_magnetic_variation` meets its contract: the one form, or else the other. Assumes nothing.
 use mathlib.Core.Path.{refl}
-use Rattle.fields.proofs.Steps.{steps}
-use Rattle.text.proofs.Places.{alt-first, alt-second}
+use Rattle.text.proofs.Finding.{finding, go-on, done, alt-found, alt-not}
 use Rattle.fields.specs.Variation.{variation}
+use Rattle.fields.proofs.Number.{never-comma}
 use Rattle.fields.proofs.variation.parse_magnetic_variation.Goals as goal
 
-pub returns-in-At : goal.returns-in-At
+pub returns-in-Ok : goal.returns-in-Ok
 unfolding variation
-returns-in-At c = (alt-first _ (search steps depth 14), refl)
+returns-in-Ok c = alt-found _ (go-on _ c.in-Ok.ensures (done refl refl))
 
-pub returns-in-No-do_parse_magnetic_variation : goal.returns-in-No-do_parse_magnetic_variation
+pub returns-in_err-variation : goal.returns-in_err-variation
 unfolding variation
-returns-in-No-do_parse_magnetic_variation c = (alt-second _ _ (search steps depth 14) (search steps depth 14), refl)
+returns-in_err-variation c = alt-not _ _ (λ f. never-comma) c.in_default.ensures (search finding depth 14)
 
-pub returns-in-Is : goal.returns-in-Is
+pub returns : goal.returns
 unfolding variation
-returns-in-Is c = (alt-second _ _ (search steps depth 14) (search steps depth 14), refl)
-
-pub returns-in-Number : goal.returns-in-Number
-unfolding variation
-returns-in-Number c = (alt-second _ _ (search steps depth 14) (search steps depth 14), refl)
+returns c = alt-not _ _ (λ f. never-comma) c.in_default.ensures (search finding depth 14)

@@ -2,7 +2,7 @@
 -- told. Assumes nothing.
 use Prim.Native.Nat.{◌-◌}
 use native.Mathlib.Omega.{arith}
-use mathlib.Core.Path.{◌≡◌, refl, sym, ◌∙◌}
+use mathlib.Core.Path.{◌≡◌, sym, ◌∙◌}
 use lib.ListN.{length}
 use lib.Seq.{slice}
 use Rattle.frame.specs.Checksum.{checksum}
@@ -15,27 +15,27 @@ use Rattle.frame.proofs.parse.passed.Goals as goal
 pub returns-then-x-found : goal.returns-then-x-found
 returns-then-x-found c =
     let line = c.args.s.now in
-    let enclosed : Enclosed line (letters c.args.kind) c.in-Is.found (length line - 3) = record {
+    let enclosed : Enclosed line (letters c.args.kind) c.in-Ok.found (length line - 3) = record {
       head = c.requires;
       comma = c.if-s-ne44.false;
       end = omega (arith, c.requires.long);
-      digits = ends-with c.checksum_field.ensures.0 c.in-Is.is (omega arith);
+      digits = ends-with c.in-Ok.ensures (omega arith);
     } in
     let pass = c.one_pass-x.ensures in
     let decided : frame line ≡ compared (checksum (slice 1 (length line - 3) line)) (parts-in line enclosed) =
-    enclosed-frame line enclosed (sym pass.1 ∙ c.if-x-ne0.false) c.if-x-gt127.false pass.2 in
-    (rw c.new.ensures (sums-equal (parts-in line enclosed) pass.0 c.if-x-found.true ∙ sym decided), refl)
+    enclosed-frame line enclosed (sym pass.star ∙ c.if-x.false) c.if-x-gt127.false pass.top in
+    rw c.new.ensures (sums-equal (parts-in line enclosed) pass.sum c.if-x-found.true ∙ sym decided)
 
 pub returns : goal.returns
 returns c =
     let line = c.args.s.now in
-    let enclosed : Enclosed line (letters c.args.kind) c.in-Is.found (length line - 3) = record {
+    let enclosed : Enclosed line (letters c.args.kind) c.in-Ok.found (length line - 3) = record {
       head = c.requires;
       comma = c.if-s-ne44.false;
       end = omega (arith, c.requires.long);
-      digits = ends-with c.checksum_field.ensures.0 c.in-Is.is (omega arith);
+      digits = ends-with c.in-Ok.ensures (omega arith);
     } in
     let pass = c.one_pass-x.ensures in
     let decided : frame line ≡ compared (checksum (slice 1 (length line - 3) line)) (parts-in line enclosed) =
-    enclosed-frame line enclosed (sym pass.1 ∙ c.if-x-ne0.false) c.if-x-gt127.false pass.2 in
-    (sums-differ (parts-in line enclosed) pass.0 c.if-x-found.false ∙ sym decided, refl)
+    enclosed-frame line enclosed (sym pass.star ∙ c.if-x.false) c.if-x-gt127.false pass.top in
+    sums-differ (parts-in line enclosed) pass.sum c.if-x-found.false ∙ sym decided

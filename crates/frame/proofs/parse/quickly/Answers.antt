@@ -18,5 +18,5 @@ passed-requires c =
 pub returns : goal.returns
 returns c =
     let s = c.args.s.now in
-    let low = sym c.is_ascii.ensures.0 ∙ c.if-not-is_ascii.false in
-    (sym (unknown-frame s (omega arith) c.if-len-gt-MAX_LEN.false low c.if-s-ne36.false (sym c.known.ensures ∙ c.if-known.false)), refl)
+    let low = sym c.is_ascii.ensures ∙ c.if-not-is_ascii.false in
+    sym (unknown-frame s (omega arith) c.if-len-gt-MAX_LEN.false low c.if-s-ne36.false (sym c.known.ensures ∙ c.if-known.false))

@@ -1,57 +1,46 @@
 -- The parts are read in the order of the definition, and each answer of a part is one step of it. Assumes nothing.
-use mathlib.Core.Path.{refl, ap}
-use Rattle.text.specs.Bytes.{byte}
-use Rattle.frame.specs.Frame.{data_from, sentence}
-use Rattle.text.specs.Answer.{part}
-use Rattle.text.proofs.Places.{took}
-use Rattle.frame.proofs.Steps.{steps, stop-field, go-char, go-two, go-three, go-part, go-field, done-sentence}
+use Rattle.frame.specs.Frame.{sentence}
+use Rattle.text.proofs.Finding.{stop, go}
+use Rattle.frame.proofs.Steps.{steps, go-char, done-sentence}
 use Rattle.frame.proofs.parse.sentence.Goals as goal
 
-pub returns-in_default : goal.returns-in_default
+pub returns-in_err-byte : goal.returns-in_err-byte
 unfolding sentence
-returns-in_default c = (search steps depth 14, refl)
+returns-in_err-byte c = search steps depth 14 fits 20000
 
-pub returns-in_default-talker : goal.returns-in_default-talker
+pub returns-in_err-talker : goal.returns-in_err-talker
 unfolding sentence
-returns-in_default-talker c = (search steps depth 14, refl)
+returns-in_err-talker c = search steps depth 14 fits 20000
 
-pub returns-in-No : goal.returns-in-No
+pub returns-in_err-kind : goal.returns-in_err-kind
 unfolding sentence
-returns-in-No c = (search steps depth 14, refl)
+returns-in_err-kind c = search steps depth 14 fits 20000
 
-pub returns-in-Unknown : goal.returns-in-Unknown
+pub returns-in_err-byte-2 : goal.returns-in_err-byte-2
 unfolding sentence
-returns-in-Unknown c = (search steps depth 14, refl)
+returns-in_err-byte-2 c = search steps depth 14 fits 20000
 
-pub returns-in_default-byte : goal.returns-in_default-byte
+pub returns-in_err-to : goal.returns-in_err-to
 unfolding sentence
-returns-in_default-byte c = (search steps depth 14, refl)
+returns-in_err-to c = search steps depth 14 fits 20000
 
-pub returns-in_default-star : goal.returns-in_default-star
+pub returns-in_err-found : goal.returns-in_err-found
 unfolding sentence
-returns-in_default-star c = (search steps depth 14, refl)
-
-pub returns-in_default-checksum_field : goal.returns-in_default-checksum_field
-unfolding sentence
-returns-in_default-checksum_field c = (
-  go-char (byte "$") _ c.in-At.is c.byte.ensures.0
-      (go-two _ c.in-Is.is c.talker.ensures.0
-      (go-three _ c.in-Is-sentence_type.is c.sentence_type.ensures.0
-      (go-char (byte ",") _ c.in-At-byte.is c.byte-2.ensures.0
-      (go-part _ c.in-At-star.is c.star.ensures.0
-      (stop-field _ c.in_default-checksum_field.is c.checksum_field.ensures.0))))),
-  refl,
-)
+returns-in_err-found c =
+    go-char _ _ c.branch-byte.ensures c.in_ok-byte.is c.byte.ensures
+    (go _ c.branch-talker.ensures c.in_ok-talker.is c.talker.ensures
+    (go _ c.branch-kind.ensures c.in_ok-kind.is c.sentence_type.ensures
+    (go-char _ _ c.branch-byte-2.ensures c.in_ok-byte-2.is c.byte-2.ensures
+    (go _ c.branch-to.ensures c.in_ok-to.is c.star.ensures
+    (stop _ c.branch-found.ensures c.in_err-found.is c.from_residual-in_err-found.ensures c.checksum_field.ensures)))))
 
 pub returns : goal.returns
 unfolding sentence
-returns c = (
-  go-char (byte "$") _ c.in-At.is c.byte.ensures.0
-      (go-two _ c.in-Is.is c.talker.ensures.0
-      (go-three _ c.in-Is-sentence_type.is c.sentence_type.ensures.0
-      (go-char (byte ",") _ c.in-At-byte.is c.byte-2.ensures.0
-      (go-part _ c.in-At-star.is c.star.ensures.0
-      (go-field _ c.in-Is-checksum_field.is c.checksum_field.ensures.0
-      (done-sentence c.new.ensures (took c.star.ensures.0 (ap (part _ data_from) c.in-At-star.is)))))))),
-  refl,
-)
+returns c =
+    go-char _ _ c.branch-byte.ensures c.in_ok-byte.is c.byte.ensures
+    (go _ c.branch-talker.ensures c.in_ok-talker.is c.talker.ensures
+    (go _ c.branch-kind.ensures c.in_ok-kind.is c.sentence_type.ensures
+    (go-char _ _ c.branch-byte-2.ensures c.in_ok-byte-2.is c.byte-2.ensures
+    (go _ c.branch-to.ensures c.in_ok-to.is c.star.ensures
+    (go _ c.branch-found.ensures c.in_ok-found.is c.checksum_field.ensures
+    (done-sentence c.new.ensures c.branch-to.ensures c.in_ok-to.is c.star.ensures))))))

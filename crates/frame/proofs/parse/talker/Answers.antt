@@ -3,14 +3,16 @@ use native.Mathlib.Omega.{arith}
 use mathlib.Core.Path.{refl, ap, ◌∙◌}
 use Rattle.text.proofs.Places.{a-read, no-read}
 use Rattle.frame.specs.Frame.{taken}
-use Rattle.frame.proofs.Taken.{next-two, two-of, taken-short}
+use Rattle.frame.proofs.Taken.{two-of, taken-short, rest-of, rest-two}
 use Rattle.frame.proofs.parse.talker.Goals as goal
 
-pub returns-then-s-lt2 : goal.returns-then-s-lt2
-returns-then-s-lt2 c = let a = c.args in (no-read (taken-short a.s.now a.at 2 (omega arith)), refl)
-
-pub returns-then-s-at : goal.returns-then-s-at
-returns-then-s-at c = let a = c.args in (no-read (taken-short a.s.now a.at 2 (omega arith)), refl)
+pub returns-in_default : goal.returns-in_default
+returns-in_default c =
+    let r = rest-of c.args.s.now c.args.at _ _ c.get.ensures.lookup c.unwrap_or.ensures refl in
+    record { reads = no-read (taken-short c.args.s.now c.args.at 2 (omega (arith, r.long))) }
 
 pub returns : goal.returns
-returns c = let a = c.args in (a-read (ap (taken 2) (next-two a.s.now a.at (omega arith)) ∙ two-of _ _ _) (omega arith) (omega arith), refl)
+returns c =
+    let r = rest-of c.args.s.now c.args.at _ _ c.get.ensures.lookup c.unwrap_or.ensures refl in
+    let two = c.in-len2-up.len_at_least in
+    record { reads = a-read (ap (taken 2) (rest-two r two) ∙ two-of _ _ _) (omega arith) (omega (arith, r.long)) }

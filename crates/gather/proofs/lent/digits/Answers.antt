@@ -1,25 +1,9 @@
--- `digits` meets its contract: the loop: a digit for each tenth. Assumes nothing.
-use mathlib.Core.Path.{◌≡◌}
-use native.Mathlib.Omega.{arith}
-use lib.ListN.{length}
-use Rattle.short.specs.Digits.{digits_of}
-use Rattle.short.proofs.Digits.{few-digits, some-digit, count-tenth}
-use Rattle.gather.proofs.Greedy.{one}
+-- `digits` meets its contract: a digit more than the power of ten has zeros. Assumes nothing.
+use Rattle.std.proofs.Common.{rules}
+use Rattle.gather.proofs.Greedy.{counted}
 use Rattle.gather.proofs.lent.digits.Goals as goal
-
-pub loop-n-init : goal.loop-n-init
-loop-n-init c = (omega arith, few-digits c.args.x 10 (omega arith) (omega arith))
-
-pub overflow_add-k : goal.overflow_add-k
-overflow_add-k c = omega (arith, some-digit c.loop-n.n)
-
-pub loop-n-smaller : goal.loop-n-smaller
-loop-n-smaller c = omega arith
-
-pub loop-n-preserved : goal.loop-n-preserved
-loop-n-preserved c = (omega (arith, count-tenth c.loop-n.n (omega arith)), c.loop-n.invariant.1)
 
 pub returns : goal.returns
 returns c =
-    let e : length (digits_of c.loop-n.n) ≡ 1 = one c.loop-n.n (omega arith) in
-    record { count = omega arith; few = omega arith }
+    let p = c.checked_ilog10.ensures in
+    counted c.args.x c.map_or.result c.checked_ilog10.result _ (λ k e. search rules) p.none p.power_le p.next_power_gt p.bound c.map_or.ensures

@@ -1,5 +1,5 @@
--- What each turn of the loop keeps, and what falls.
-use Prim.Native.Nat.{◌-◌, ◌≤◌}
+-- What each turn of the loop keeps.
+use Prim.Native.Nat.{◌-◌}
 use mathlib.Core.Path.{◌≡◌}
 use lib.ListN.{length}
 use Rattle.short.specs.Digits.{digits_of}
@@ -7,8 +7,8 @@ use Rattle.gather.proofs.Greedy.{Small, Packing}
 use Rattle.gather.proofs.lent.pieces.Given as goal
 
 abbrev pub invariant-loop-i : goal.invariant-loop-i
-invariant-loop-i l =
-    (l.room ≡ 88 - length (digits_of l.view)) × (l.i ≤ l.count) × Small l.i l.p × Packing l.room l.row l.count l.i l.p
-
-abbrev pub decreases-loop-i : goal.decreases-loop-i
-decreases-loop-i l = l.count - l.i
+invariant-loop-i l = record {
+  space : l.room ≡ 88 - length (digits_of l.view);
+  small : Small l.i l.p;
+  packed : Packing l.room l.row l.count l.i l.p;
+}

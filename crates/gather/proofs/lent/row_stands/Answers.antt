@@ -1,97 +1,26 @@
--- `row_stands` meets its contract: test by test; short entries are only counted, by `Quick`. Assumes nothing.
-use native.Mathlib.Omega.{arith}
-use mathlib.Core.Path.{refl, sym, ◌∙◌}
-use borrow.Author.Tests.{le-leb, lt-leb, eq-eqb, ne_eqb}
+-- `row_stands` meets its contract: short entries are only counted, by `Quick`. Assumes nothing.
+use mathlib.Core.Path.{sym, ◌∙◌}
 use Rattle.gather.proofs.Tests.{failed, passed}
-use Rattle.gather.proofs.Quick.{Head, many-fails, short-stands, unreadable, exact}
+use Rattle.gather.proofs.Quick.{may-stand, no-run, many-fails, short-stands, unreadable, exact}
 use Rattle.gather.proofs.lent.row_stands.Goals as goal
 
-pub returns-then-row-ne-ROW : goal.returns-then-row-ne-ROW
-returns-then-row-ne-ROW c = (simp (ne_eqb _ _ c.if-row-ne-ROW.true), refl)
-
-pub returns-then-next-lt2 : goal.returns-then-next-lt2
-returns-then-next-lt2 c = (
-  simp (
-    eq-eqb _ _ c.if-row-ne-ROW.false,
-    lt-leb _ _ c.if-next-lt2.true,
-  ),
-  refl,
-)
-
-pub returns-then-n-next : goal.returns-then-n-next
-returns-then-n-next c = (
-  simp (
-    eq-eqb _ _ c.if-row-ne-ROW.false,
-    le-leb _ _ c.if-next-lt2.false,
-    lt-leb _ _ c.if-n-next.true,
-  ),
-  refl,
-)
-
-pub returns-then-n-gt-LINES : goal.returns-then-n-gt-LINES
-returns-then-n-gt-LINES c = (
-  simp (
-    eq-eqb _ _ c.if-row-ne-ROW.false,
-    le-leb _ _ c.if-next-lt2.false,
-    le-leb _ _ c.if-n-next.false,
-    lt-leb _ _ c.if-n-gt-LINES.true,
-  ),
-  refl,
-)
-
-pub returns-then-view-gt-COUNT_MAX : goal.returns-then-view-gt-COUNT_MAX
-returns-then-view-gt-COUNT_MAX c = (
-  simp (
-    eq-eqb _ _ c.if-row-ne-ROW.false,
-    le-leb _ _ c.if-next-lt2.false,
-    le-leb _ _ c.if-n-next.false,
-    le-leb _ _ c.if-n-gt-LINES.false,
-    lt-leb _ _ c.if-view-gt-COUNT_MAX.true,
-  ),
-  refl,
-)
-
-pub overflow_cast-count : goal.overflow_cast-count
-overflow_cast-count c = omega (arith, c.shared_slice_known-5-1.given 3)
+pub returns-then-not-stands : goal.returns-then-not-stands
+returns-then-not-stands c = no-run c.args.row.now (failed _ _ c.stands.ensures c.if-not-stands.true)
 
 pub returns-then-count-gt-CELLS : goal.returns-then-count-gt-CELLS
-returns-then-count-gt-CELLS c = (many-fails c.args.row.now c.if-count-gt-CELLS.true, refl)
+returns-then-count-gt-CELLS c = many-fails c.args.row.now c.if-count-gt-CELLS.true
 
 pub returns-then-all_short : goal.returns-then-all_short
 returns-then-all_short c =
-    let head : Head c.args.row.now =
-    record {
-      long = c.if-row-ne-ROW.false;
-      begun = c.if-next-lt2.false;
-      open' = c.if-n-next.false;
-      high = c.if-n-gt-LINES.false;
-      view = c.if-view-gt-COUNT_MAX.false;
-    }
-    in
-    (short-stands _ head (sym c.all_short.ensures ∙ c.if-all_short.true), refl)
+    let head = may-stand c.args.row.now c.if-row-ne-ROW.false (passed _ _ c.stands.ensures c.if-not-stands.false) c.if-run-gt-COUNT_MAX.false in
+    short-stands _ head (sym c.all_short.ensures ∙ c.if-all_short.true)
 
 pub returns-then-not-all_within : goal.returns-then-not-all_within
 returns-then-not-all_within c =
-    let head : Head c.args.row.now =
-    record {
-      long = c.if-row-ne-ROW.false;
-      begun = c.if-next-lt2.false;
-      open' = c.if-n-next.false;
-      high = c.if-n-gt-LINES.false;
-      view = c.if-view-gt-COUNT_MAX.false;
-    }
-    in
-    (unreadable _ head (failed _ _ c.all_within.ensures c.if-not-all_within.true), refl)
+    let head = may-stand c.args.row.now c.if-row-ne-ROW.false (passed _ _ c.stands.ensures c.if-not-stands.false) c.if-run-gt-COUNT_MAX.false in
+    unreadable _ head (failed _ _ c.all_within.ensures c.if-not-all_within.true)
 
 pub returns : goal.returns
 returns c =
-    let head : Head c.args.row.now =
-    record {
-      long = c.if-row-ne-ROW.false;
-      begun = c.if-next-lt2.false;
-      open' = c.if-n-next.false;
-      high = c.if-n-gt-LINES.false;
-      view = c.if-view-gt-COUNT_MAX.false;
-    }
-    in
-    (exact _ _ head (passed _ _ c.all_within.ensures c.if-not-all_within.false) c.pieces-k.ensures, refl)
+    let head = may-stand c.args.row.now c.if-row-ne-ROW.false (passed _ _ c.stands.ensures c.if-not-stands.false) c.if-run-gt-COUNT_MAX.false in
+    exact _ _ head (passed _ _ c.all_within.ensures c.if-not-all_within.false) c.pieces-k.ensures

@@ -9,22 +9,22 @@ returns-then-end-at c =
     let a = c.args in
     record {
       after = omega arith;
-      within = omega (arith, long-within a.log.now a.at c.requires.0, c.requires);
-      line = cut-empty a.log.now a.at a.end c.requires.1 c.if-end-at.true;
+      within = omega (arith, long-within a.log.now a.at c.requires.within, c.requires);
+      line = cut-empty a.log.now a.at a.end c.requires.at_end c.if-end-at.true;
     }
 
 pub bounds-log-end : goal.bounds-log-end
 bounds-log-end c =
     let a = c.args in
-    omega (arith, long-within a.log.now a.at c.requires.0, c.requires)
+    omega (arith, long-within a.log.now a.at c.requires.within, c.requires)
 
 pub returns-then-log-end-eq13 : goal.returns-then-log-end-eq13
 returns-then-log-end-eq13 c =
     let a = c.args in
     record {
       after = omega arith;
-      within = omega (arith, long-within a.log.now a.at c.requires.0, c.requires);
-      line = cut-cr a.log.now a.at a.end c.requires.1 c.if-end-at.false c.if-log-end-eq13.true;
+      within = omega (arith, long-within a.log.now a.at c.requires.within, c.requires);
+      line = cut-cr a.log.now a.at a.end c.requires.at_end c.if-end-at.false c.if-log-end-eq13.true;
     }
 
 pub returns : goal.returns
@@ -32,6 +32,6 @@ returns c =
     let a = c.args in
     record {
       after = omega arith;
-      within = omega (arith, long-within a.log.now a.at c.requires.0, c.requires);
-      line = cut-plain a.log.now a.at a.end c.requires.1 c.if-end-at.false c.if-log-end-eq13.false;
+      within = omega (arith, long-within a.log.now a.at c.requires.within, c.requires);
+      line = cut-plain a.log.now a.at a.end c.requires.at_end c.if-end-at.false c.if-log-end-eq13.false;
     }

@@ -3,9 +3,6 @@ use Rattle.std.proofs.Common.{arith}
 use Rattle.lines.proofs.Scan.{stretch-here, stretch-more, stretch-end}
 use Rattle.logs.proofs.line.line_end.Goals as goal
 
-pub loop-i-init : goal.loop-i-init
-loop-i-init c = c.skip-i.ensures
-
 pub returns-then-log-i-eq10 : goal.returns-then-log-i-eq10
 returns-then-log-i-eq10 c =
     omega (arith, c.loop-i.invariant, stretch-here c.args.log.now c.loop-i.i c.loop-i-test.true c.if-log-i-eq10.true)
@@ -16,4 +13,5 @@ loop-i-preserved c =
 
 pub returns : goal.returns
 returns c =
-    omega (arith, c.loop-i.invariant, stretch-end c.args.log.now c.loop-i.i c.loop-i-test.false)
+    let l = c.args.log.now in
+    grind (arith, c.loop-i.invariant, stretch-end l c.loop-i.i c.loop-i-test.false, stretch-end l c.skip-from.result)

@@ -1,10 +1,7 @@
--- What each turn of the loop keeps, and what falls.
-use Rattle.std.proofs.Common.{◌≡◌, ◌+◌, ◌-◌, length, drop}
+-- What each turn of the loop keeps.
+use Rattle.std.proofs.Common.{◌≡◌, ◌+◌, length, drop}
 use Rattle.lines.specs.Places.{stretch}
 use Rattle.logs.proofs.line.line_end.Given as goal
 
 abbrev pub invariant-loop-i : goal.invariant-loop-i
 invariant-loop-i l = l.at + length (stretch (drop l.at l.log)) ≡ l.i + length (stretch (drop l.i l.log))
-
-abbrev pub decreases-loop-i : goal.decreases-loop-i
-decreases-loop-i l = length l.log - l.i

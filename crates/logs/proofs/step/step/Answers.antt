@@ -1,20 +1,25 @@
 -- `step` meets its contract: test by test. Assumes nothing.
-use Rattle.std.proofs.Common.{refl, arith}
-use Rattle.logs.proofs.OneStep.{step-long, step-bad, step-within, step-end, step-line}
+use Rattle.std.proofs.Common.{arith}
+use Rattle.logs.proofs.Start.{handed-on}
+use Rattle.logs.proofs.OneStep.{step-barred, step-within, step-end, step-line}
 use Rattle.logs.proofs.step.step.Goals as goal
 
-pub returns-then-log-gt-LONGEST : goal.returns-then-log-gt-LONGEST
-returns-then-log-gt-LONGEST c = (step-long c.args.log.now c.args.place c.args.words.now c.if-log-gt-LONGEST.true c.idle.ensures, refl)
-
-pub returns-then-not-is_place : goal.returns-then-not-is_place
-returns-then-not-is_place c = (step-bad c.args.log.now c.args.place c.args.words.now c.if-log-gt-LONGEST.false c.is_place.ensures.0 c.if-not-is_place.true c.idle-then-not-is_place.ensures, refl)
+pub returns-in_err-start : goal.returns-in_err-start
+returns-in_err-start c =
+    let a = c.args in
+    rw (handed-on c.from_residual.result c.from_residual.ensures) (step-barred a.log.now a.place a.words.now c.in_err-start.ensures)
 
 pub returns-then-place-log : goal.returns-then-place-log
-returns-then-place-log c = (step-end c.args.log.now c.args.place c.args.words.now c.if-log-gt-LONGEST.false c.is_place.ensures.0 c.if-not-is_place.false c.if-place-log.true c.idle-then-place-log.ensures, refl)
+returns-then-place-log c = let a = c.args in step-end a.log.now a.place a.words.now c.in_ok-start.ensures c.if-place-log.true
 
-pub line_at-h-requires : goal.line_at-h-requires
-line_at-h-requires c = let z = c.if-place-log.false in
-    omega (arith, step-within c.args.log.now c.args.place c.args.words.now c.if-log-gt-LONGEST.false c.is_place.ensures.0 c.if-not-is_place.false)
+pub line_at-line-requires : goal.line_at-line-requires
+line_at-line-requires c =
+    let a = c.args in
+    let z = c.if-place-log.false in
+    omega (arith, step-within a.log.now a.place a.words.now c.in_ok-start.ensures)
 
 pub returns : goal.returns
-returns c = (step-line c.args.log.now c.args.place c.args.words.now c.if-log-gt-LONGEST.false c.is_place.ensures.0 c.if-not-is_place.false c.if-place-log.false c.line_at-h.result c.line_at-h.ensures c.follow_line-handed.ensures, refl)
+returns c =
+    let a = c.args in
+    let l = c.line_at-line in
+    step-line a.log.now a.place a.words.now c.in_ok-start.ensures c.if-place-log.false l.result.0 l.result.1 l.ensures c.follow_line-outcome.ensures

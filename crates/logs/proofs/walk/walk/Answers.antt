@@ -1,58 +1,46 @@
 -- `walk` meets its contract: at the loop's head, the steps of the whole walk are those that are left. Assumes nothing.
-use Rattle.std.proofs.Common.{sym, refl, ◌∙◌, subst}
+use Rattle.std.proofs.Common.{◌<◌, sym, ap, subst, arith}
 use Rattle.logs.specs.declared.walk.Counts.{Counts}
-use Rattle.logs.proofs.Goes.{Goes, goes-first, fit-within, few-groups, further, after-turn}
-use Rattle.logs.proofs.Answers.{walk-long, walk-bad, walk-used, walk-ended}
+use Rattle.logs.proofs.Start.{no-bar, handed-on}
+use Rattle.logs.proofs.Goes.{Goes, goes-first, line-more, after-turn}
+use Rattle.logs.proofs.Answers.{walk-barred, walk-used, walk-ended}
 use Rattle.logs.proofs.walk.walk.Goals as goal
 
-pub returns-then-log-gt-LONGEST : goal.returns-then-log-gt-LONGEST
-returns-then-log-gt-LONGEST c = let a = c.args in (walk-long a.log.now a.place a.allowance a.words.now c.if-log-gt-LONGEST.true, refl)
-
-pub returns-then-not-is_place : goal.returns-then-not-is_place
-returns-then-not-is_place c =
+pub returns-in_err-start : goal.returns-in_err-start
+returns-in_err-start c =
     let a = c.args in
-    (walk-bad a.log.now a.place a.allowance a.words.now c.if-log-gt-LONGEST.false c.is_place.ensures.0 c.if-not-is_place.true, refl)
+    rw (handed-on c.from_residual.result c.from_residual.ensures) (walk-barred a.log.now a.place a.allowance a.words.now c.in_err-start.ensures)
 
-pub loop-c-init : goal.loop-c-init
-loop-c-init c =
+pub loop-init : goal.loop-init
+loop-init c =
     let a = c.args in
-    subst (λ (x : Counts). Goes a.log.now a.place a.allowance a.words.now x a.words.now) (sym c.counts_at-c.ensures)
-    (goes-first a.log.now a.place a.allowance a.words.now c.if-log-gt-LONGEST.false (sym c.is_place.ensures.0 ∙ c.if-not-is_place.false))
+    let (short, place) = no-bar a.log.now a.place c.in_ok-start.ensures in (
+      subst (λ (x : Counts). Goes a.log.now a.place a.allowance a.words.now x a.words.now) (sym c.counts_at-c.ensures)
+          (goes-first a.log.now a.place a.allowance a.words.now short place),
+      ap (λ (x : Counts). x.lines) c.counts_at-c.ensures,
+    )
 
-pub tally-c-requires : goal.tally-c-requires
-tally-c-requires c =
-    fit-within c.args.log.now c.loop-c.c c.loop-c.invariant.fit c.loop-c.invariant.short
-
-pub with_group-c-requires : goal.with_group-c-requires
-with_group-c-requires c =
+pub loop-preserved : goal.loop-preserved
+loop-preserved c =
     let a = c.args in
-    few-groups a.log.now a.place a.allowance a.words.now c.loop-c.c c.loop-c.words c.loop-c.invariant c.loop-c-test.true c.if-log-at.false _ c.take_line-t.result c.take_line-t.ensures
-    c.tally-c.result c.tally-c.ensures
+    let more : c.loop.c.lines < a.allowance = omega (arith, c.loop.invariant.1) in
+    let t = c.take_line-t in (
+      after-turn a.log.now a.place a.allowance a.words.now c.loop.c c.loop.words c.loop.invariant.0 more c.if-log-c.false _ t.result t.ensures
+          c.tally.result c.tally.ensures c.with_group-c.result c.with_group-c.ensures,
+      omega (
+        arith,
+        c.loop.invariant.1,
+        line-more a.log.now a.place a.allowance a.words.now c.loop.c c.loop.words c.loop.invariant.0 more c.if-log-c.false _ t.result t.ensures
+            c.tally.result c.tally.ensures c.with_group-c.result c.with_group-c.ensures,
+      ),
+    )
 
-pub loop-c-smaller : goal.loop-c-smaller
-loop-c-smaller c =
+pub returns-after-loop : goal.returns-after-loop
+returns-after-loop c =
     let a = c.args in
-    further a.log.now a.place a.allowance a.words.now c.loop-c.c c.loop-c.words c.loop-c.invariant c.loop-c-test.true c.if-log-at.false _ c.take_line-t.result c.take_line-t.ensures
-    c.tally-c.result c.tally-c.ensures c.with_group-c.result c.with_group-c.ensures
+    walk-used a.log.now a.place a.allowance a.words.now c.in_ok-start.ensures c.loop.c c.loop.words c.loop.invariant.0 (omega (arith, c.loop.invariant.1, c.loop-test.false))
 
-pub loop-c-preserved : goal.loop-c-preserved
-loop-c-preserved c =
+pub returns-then-log-c : goal.returns-then-log-c
+returns-then-log-c c =
     let a = c.args in
-    after-turn a.log.now a.place a.allowance a.words.now c.loop-c.c c.loop-c.words c.loop-c.invariant c.loop-c-test.true c.if-log-at.false _ c.take_line-t.result c.take_line-t.ensures
-    c.tally-c.result c.tally-c.ensures c.with_group-c.result c.with_group-c.ensures
-
-pub shape_of-words-after-loop-c : goal.shape_of-words-after-loop-c
-shape_of-words-after-loop-c c = c.loop-c.invariant.rows
-
-pub returns-after-loop-c : goal.returns-after-loop-c
-returns-after-loop-c c =
-    let a = c.args in
-    (walk-used a.log.now a.place a.allowance a.words.now c.if-log-gt-LONGEST.false c.is_place.ensures.0 c.if-not-is_place.false c.loop-c.c c.loop-c.words c.loop-c.invariant c.loop-c-test.false, refl)
-
-pub shape_of-words-then-log-at : goal.shape_of-words-then-log-at
-shape_of-words-then-log-at c = c.loop-c.invariant.rows
-
-pub returns-then-log-at : goal.returns-then-log-at
-returns-then-log-at c =
-    let a = c.args in
-    (walk-ended a.log.now a.place a.allowance a.words.now c.if-log-gt-LONGEST.false c.is_place.ensures.0 c.if-not-is_place.false c.loop-c.c c.loop-c.words c.loop-c.invariant c.if-log-at.true, refl)
+    walk-ended a.log.now a.place a.allowance a.words.now c.in_ok-start.ensures c.loop.c c.loop.words c.loop.invariant.0 c.if-log-c.true

@@ -1,14 +1,7 @@
--- A range whose end lies before its start, or past the text, is answered by an empty part. Assumes nothing.
-use native.Mathlib.Omega.{arith}
-use mathlib.Core.Path.{refl, sym}
-use Rattle.frame.proofs.Ranges.{turned, outside, within}
+-- What `get` lends is the part of the text, or nothing where the range does not lie in it. Assumes nothing.
+use mathlib.Core.Path.{refl}
+use Rattle.frame.proofs.Ranges.{ranged}
 use Rattle.frame.proofs.sentence.Sentence.data.Goals as goal
 
-pub returns-then-to-from : goal.returns-then-to-from
-returns-then-to-from c = let a = c.args in (sym (turned a.s.now a.self.from a.self.to (omega arith)), refl)
-
-pub returns-then-s-to : goal.returns-then-s-to
-returns-then-s-to c = let a = c.args in (sym (outside a.s.now a.self.from a.self.to (omega arith)), refl)
-
 pub returns : goal.returns
-returns c = let a = c.args in (sym (within a.s.now a.self.from a.self.to (omega arith) (omega arith)), refl)
+returns c = let a = c.args in ranged a.s.now a.self.from a.self.to _ _ c.get.ensures.lookup c.unwrap_or.ensures refl

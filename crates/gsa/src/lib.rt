@@ -49,6 +49,15 @@ struct Tail {
     system: Option<u8>,
 }
 
+// The data of a GSA sentence but for the satellites.
+#[derive(Clone, Copy)]
+pub struct GsaHead {
+    pub mode: u8,
+    pub fix: u8,
+    pub dops: Option<Dops>,
+    pub system: Option<u8>,
+}
+
 // The data of a GSA sentence. Mode and fix are bytes as they stand: M or A, and 1, 2 or 3.
 #[derive(Clone, Copy)]
 pub struct GsaData {

@@ -13,7 +13,7 @@ ghost use Rattle.intake.specs.Code.{Tells, Quiet};
 
 use frame::{Refusal, Sentence};
 use gather::line::Outcome;
-use gsa::Mismatch;
+use gsa::{GsaHead, Mismatch};
 use gsv::{GsvHead, GsvRecord, GsvTalker};
 use sentence::Formatter;
 
@@ -36,7 +36,20 @@ fn take_gsa(line: &[u8], x: Sentence, out: &mut [u64]) -> Taken
     let data = gsa::do_parse_gsa(x.data(line))?;
     match gsa::settle(talker.0, talker.1, data.system) {
         Ok(system) => {
-            words::put_gsa(out, talker, gsa::with_system(data, system));
+            let data = gsa::with_system(data, system);
+            let head = GsaHead {
+                mode: data.mode,
+                fix: data.fix,
+                dops: data.dops,
+                system: data.system,
+            };
+            words::put_gsa(
+                out,
+                talker,
+                head,
+                data.satellites.items,
+                data.satellites.count,
+            );
             Ok(None)
         }
         Err(Mismatch(named, tail)) => Err(Refusal::SystemMismatch(named, tail)),

@@ -4,7 +4,7 @@ use Rattle.frame.specs.Answer.{refused}
 use Rattle.frame.specs.declared.refusal.Talker.{Talker}
 use Rattle.frame.specs.declared.refusal.Kind.{Kind}
 use Rattle.frame.specs.declared.refusal.Refusal.{Refusal}
-use Rattle.gsa.specs.declared.GsaData.{GsaData}
+use Rattle.gsa.specs.declared.GsaHead.{GsaHead}
 use Rattle.gsv.specs.Answer.{gsv_sentence}
 use Rattle.gsv.specs.declared.GsvRecord.{GsvRecord}
 use Rattle.rmc.specs.declared.RmcData.{RmcData}
@@ -12,7 +12,6 @@ use Rattle.gga.specs.declared.GgaData.{GgaData}
 use Rattle.gll.specs.declared.GllData.{GllData}
 use Rattle.vtg.specs.declared.VtgData.{VtgData}
 use Rattle.words.specs.Rmc.{rmc_words}
-use Rattle.words.specs.Gsa.{gsa_words}
 use Rattle.words.specs.Gsv.{gsv_words}
 use Rattle.words.specs.Gga.{gga_words}
 use Rattle.words.specs.Gll.{gll_words}
@@ -20,7 +19,7 @@ use Rattle.words.specs.Vtg.{vtg_words}
 use Rattle.words.specs.Other.{other_words}
 use Rattle.words.specs.Refused.{refused_words}
 use Rattle.words.specs.Words.{into}
-use Rattle.words.specs.Answer.{rmc_sentence, gsa_sentence, gga_sentence, gll_sentence, vtg_sentence, other_sentence}
+use Rattle.words.specs.Answer.{rmc_sentence, gsa_row, gga_sentence, gll_sentence, vtg_sentence, other_sentence}
 use Rattle.only.proofs.Laws.{same}
 
 pub put-rmc : (out : List ℕ) (talker : Talker) (d : RmcData) {l m : List ℕ}
@@ -29,11 +28,11 @@ pub put-rmc : (out : List ℕ) (talker : Talker) (d : RmcData) {l m : List ℕ}
     → l ≡ m
 put-rmc out talker d = same
 
-pub put-gsa : (out : List ℕ) (talker : Talker) (d : GsaData) {l m : List ℕ}
-    → l ≡ into (gsa_words (gsa_sentence talker d)) out
-    → m ≡ into (gsa_words (gsa_sentence talker d)) out
+pub put-gsa : (out : List ℕ) (talker : Talker) (head : GsaHead) (items : List ℕ) (count : ℕ) {l m : List ℕ}
+    → l ≡ into (gsa_row talker head items count) out
+    → m ≡ into (gsa_row talker head items count) out
     → l ≡ m
-put-gsa out talker d = same
+put-gsa out talker head items count = same
 
 pub put-gsv : (out : List ℕ) (g : GsvRecord) {l m : List ℕ}
     → l ≡ into (gsv_words (gsv_sentence g)) out

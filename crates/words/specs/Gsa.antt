@@ -14,7 +14,10 @@ use Rattle.gsa.specs.Gsa.{kept, Gsa}
 use Rattle.answer.specs.Sentence.{Sentence}
 use Rattle.words.specs.Part.{zeros, padded, dops_words}
 
--- 19 to 37
+-- 19 to 37: a count and cells as they are given, and those of the satellites
+abbrev pub row_words : ℕ → List ℕ → List ℕ
+row_words count cells = count ∷ padded kept cells
+
 abbrev pub cell_words : List ℕ → List ℕ
 cell_words satellites = length satellites ∷ padded kept satellites
 

@@ -9,6 +9,7 @@ use Rattle.fields.specs.Time.{Time}
 use Rattle.fields.specs.Date.{Date}
 use Rattle.fields.specs.Position.{LatLon}
 use Rattle.gsa.specs.Gsa.{Dops, Gsa}
+use Rattle.gsa.specs.declared.GsaHead.{GsaHead}
 use Rattle.gsv.specs.Gsv.{Satellite, GsvSentence}
 use Rattle.rmc.specs.Rmc.{Rmc}
 use Rattle.gga.specs.Gga.{Gga}
@@ -16,7 +17,8 @@ use Rattle.gll.specs.Gll.{Gll}
 use Rattle.vtg.specs.Vtg.{Speed, Vtg}
 use Rattle.words.specs.Part.{padded, present, option_words, time_words, date_words, position_words, short_words, dops_words}
 use Rattle.words.specs.Rmc.{body_words as rmc_body}
-use Rattle.words.specs.Gsa.{cell_words, body_words as gsa_body}
+use Rattle.words.specs.Gsa.{row_words, cell_words, body_words as gsa_body}
+use Rattle.words.specs.Answer.{row_body}
 use Rattle.words.specs.Gsv.{satellite_words, entry_words, body_words as gsv_body}
 use Rattle.words.specs.Gga.{body_words as gga_body}
 use Rattle.words.specs.Gll.{field_words}
@@ -50,8 +52,11 @@ short-five = present-long 4 _ (λ _. refl)
 pub dops-thirteen : (d : Option Dops) → length (dops_words d) ≡ 13
 dops-thirteen = present-long 12 _ (λ _. refl)
 
+pub row-nineteen : (count : ℕ) (cells : List ℕ) → length (row_words count cells) ≡ 19
+row-nineteen count cells = ap suc (padded-long 18 _)
+
 pub cells-nineteen : (xs : List ℕ) → length (cell_words xs) ≡ 19
-cells-nineteen xs = ap suc (padded-long 18 xs)
+cells-nineteen xs = row-nineteen (length xs) xs
 
 pub satellite-seven : (s : Satellite) → length (satellite_words s) ≡ 7
 satellite-seven s = simp (length-append, option-two) refl
@@ -70,6 +75,9 @@ rmc-body b = simp lengths refl
 
 pub gsa-body : (b : Gsa) → 3 + length (gsa_body b) ≡ 38
 gsa-body b = simp lengths refl
+
+pub gsa-row : (h : GsaHead) (count : ℕ) (cells : List ℕ) → 3 + length (row_body h count cells) ≡ 38
+gsa-row h count cells = simp lengths refl
 
 pub gsv-body : (g : GsvSentence) → 3 + length (gsv_body g) ≡ 39
 gsv-body g = simp lengths refl

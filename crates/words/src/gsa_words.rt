@@ -1,19 +1,19 @@
 // A GSA sentence in words.
-ghost use Rattle.std.specs.Prelude.{ℕ, List, ◌≡◌, refl};
+ghost use Rattle.std.specs.Prelude.{◌≡◌, refl, length};
 ghost use Rattle.std.proofs.Common.{rules};
-ghost use Rattle.gsa.specs.Gsa.{Dops as DopsOf};
-ghost use Rattle.gsa.specs.Answer.{three_dops, satellites_of, gsa_of};
+ghost use Rattle.gsa.specs.Gsa.{kept, Dops as DopsOf};
+ghost use Rattle.gsa.specs.Answer.{three_dops};
 ghost use Rattle.words.specs.Part.{three_words};
-ghost use Rattle.words.specs.Gsa.{cell_words, body_words, gsa_words};
-ghost use Rattle.words.specs.Lengths.{cells-nineteen, gsa-body};
+ghost use Rattle.words.specs.Gsa.{row_words};
+ghost use Rattle.words.specs.Lengths.{row-nineteen, gsa-row};
 ghost use Rattle.words.specs.Words.{into};
-ghost use Rattle.words.specs.Answer.{gsa_sentence};
+ghost use Rattle.words.specs.Answer.{row_body, gsa_row};
 
 use crate::part::{Words, byte_word, put_option};
 use crate::record::{self, Body, put_sentence};
 use decimal::ShortDecimal;
 use frame::Talker;
-use gsa::{Dops, GsaData, Satellites};
+use gsa::{Dops, GsaHead, SATELLITES};
 
 // Where each part stands.
 const MODE: usize = 3;
@@ -48,51 +48,74 @@ impl Words for Dops {
     }
 }
 
-// Their count, and the cells.
-impl Words for Satellites {
+// Cells and their count, as they are given.
+#[derive(Clone, Copy)]
+struct Cells {
+    items: [u32; SATELLITES],
+    count: usize,
+    ghost all: { length items ≡ kept },
+}
+
+impl Words for Cells {
+    ghost use Rattle.words.specs.declared.gsa_words.Cells.{Cells as CellsOf};
+
     ghost SIZE = { 19 };
 
-    ghost Meaning = { List ℕ };
+    ghost Meaning = { CellsOf };
 
-    ghost meaning = { satellites_of };
+    ghost meaning = { λ c. c };
 
-    ghost words = { cell_words };
+    ghost words = { λ c. row_words c.count c.items };
 
-    const SIZE: usize = 1 + gsa::SATELLITES;
+    const SIZE: usize = 1 + SATELLITES;
 
-    ghost long = { cells-nineteen };
+    ghost long = { λ c. row-nineteen c.count c.items };
 
     fn put(self, out: &mut [u64], at: usize) {
         out[at] = self.count as u64;
-        for i in 0..gsa::SATELLITES {
+        for i in 0..SATELLITES {
             out[at + 1 + i] = u64::from(self.items[i]);
         }
     }
 }
 
-impl Body for GsaData {
+// What stands in front of the cells, and the cells.
+#[derive(Clone, Copy)]
+struct GsaRow {
+    head: GsaHead,
+    cells: Cells,
+}
+
+impl Body for GsaRow {
     ghost END = { 38 };
 
-    ghost words = { λ d. body_words (gsa_of d) };
+    ghost words = { λ r. row_body r.head r.cells.count r.cells.items };
 
     const END: usize = REST;
 
-    ghost long = { λ d. gsa-body (gsa_of d) };
+    ghost long = { λ r. gsa-row r.head r.cells.count r.cells.items };
 
     ghost within = { Prim.search rules };
 
     fn put_body(self, out: &mut [u64]) {
-        out[MODE] = u64::from(self.mode);
-        out[FIX] = u64::from(self.fix);
-        out[SYSTEM] = byte_word(self.system);
-        put_option(out, DOPS, self.dops);
-        self.satellites.put(out, COUNT);
+        out[MODE] = u64::from(self.head.mode);
+        out[FIX] = u64::from(self.head.fix);
+        out[SYSTEM] = byte_word(self.head.system);
+        put_option(out, DOPS, self.head.dops);
+        self.cells.put(out, COUNT);
     }
 }
 
-// Puts a GSA sentence into the first 40 words, and nothing where there are fewer.
-pub fn put_gsa(out: &mut [u64], talker: Talker, d: GsaData)
-    ensures { out.new ≡ into (gsa_words (gsa_sentence talker d)) out.old }
+// Puts a GSA sentence into the first 40 words, with the count and the cells as they are given, and nothing where there are fewer.
+pub fn put_gsa(
+    out: &mut [u64],
+    talker: Talker,
+    head: GsaHead,
+    items: [u32; SATELLITES],
+    count: usize,
+)
+    ensures { out.new ≡ into (gsa_row talker head items count) out.old }
 {
-    put_sentence(out, record::GSA, talker, d);
+    let cells = Cells { items, count };
+    put_sentence(out, record::GSA, talker, GsaRow { head, cells });
 }

@@ -21,7 +21,7 @@ fn answer<W: Write>(output: &mut W, line: &[u8]) -> io::Result<()> {
     let mut words = [0; WORDS];
     capi::nmea_answer(line, &mut words);
     let mut bytes = [0; WORDS * WORD];
-    for (place, word) in bytes.chunks_exact_mut(WORD).zip(words) {
+    for (place, word) in bytes.chunks_exact_mut(WORD).zip(&words) {
         place.copy_from_slice(&word.to_le_bytes());
     }
     output.write_all(&bytes)

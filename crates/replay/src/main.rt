@@ -41,7 +41,7 @@ fn is_answer(line: &[u8], bytes: &[u8]) -> bool {
     capi::nmea_answer(line, &mut words);
     bytes
         .chunks_exact(WORD)
-        .zip(words)
+        .zip(&words)
         .all(|(place, word)| place == word.to_le_bytes().as_slice())
 }
 

@@ -58,11 +58,9 @@ $GPGSA,A,1,,,,*33\n";
 
 type Table = [u32; table::WORDS];
 
-// The table that the first lines of the log leave.
-fn table_after(lines: usize) -> Table {
-    let mut table = [0; table::WORDS];
-    let _ = walk::walk(LOG, 0, lines, &mut table);
-    table
+// Leaves in a fresh table what the first lines of the log leave. It is lent: handed back, it would be copied.
+fn take_first(lines: usize, table: &mut Table) {
+    let _ = walk::walk(LOG, 0, lines, table);
 }
 
 // The refusal's number, and the place that it carries.
@@ -115,6 +113,7 @@ fn tell_step(rt: &impl Print, stepped: Result<Stepped, Refusal>, table: &Table) 
 }
 
 fn tell(rt: &impl Print, case: Case) -> io::Result<()> {
+    let mut table = [0; table::WORDS];
     match case {
         Walk {
             lines,
@@ -122,12 +121,12 @@ fn tell(rt: &impl Print, case: Case) -> io::Result<()> {
             allowance,
         } => {
             print!(rt; "walk {lines} {place} {allowance} =")?;
-            let mut table = table_after(lines);
+            take_first(lines, &mut table);
             tell_walk(rt, walk::walk(LOG, place, allowance, &mut table))
         }
         Step { lines, place } => {
             print!(rt; "step {lines} {place} 0 =")?;
-            let mut table = table_after(lines);
+            take_first(lines, &mut table);
             let stepped = step::step(LOG, place, &mut table);
             tell_step(rt, stepped, &table)
         }

@@ -10,5 +10,5 @@ use Rattle.frame.proofs.Within.{data-within}
 use Rattle.held.specs.Calculated.{sum_in, comes_to}
 use Rattle.held.specs.Answer.{sum_of}
 
-pub told-is : (s : List ℕ) (x : Sentence) {n : ℕ} → framed s (Ok x) ≡ frame s → n ≡ sum_of x.talker x.kind (data_of x s) → comes_to n ≡ sum_in (frame s)
-told-is s x h g = ap comes_to (g ∙ ap (sum_of x.talker x.kind) (data-within s x (sym h))) ∙ ap sum_in h
+pub told_is : (s : List ℕ) (x : Sentence) {n : ℕ} → framed s (Ok x) ≡ frame s → n ≡ sum_of x.talker x.kind (data_of x s) → comes_to n ≡ sum_in (frame s)
+told_is s x h g = ap comes_to (g ∙ ap (sum_of x.talker x.kind) (data-within s x (sym h))) ∙ ap sum_in h

@@ -67,6 +67,7 @@ pub fn line_checksum(line: &[u8], framed: Sentence) -> u8
 }
 
 // What any line's checksum should be, or why the line is refused.
+#[tactic(auto, using(crate::proofs::Told::told_is))]
 pub fn calculate(line: &[u8]) -> Result<u8, Refusal>
     ensures { summed result ≡ sum_in (frame line.now) }
 {

@@ -49,6 +49,11 @@ module _ {A B : Type 0} {s : List ℕ} {at : ℕ} {q : Reader A} (k : A → Read
       → Finds s at (q >>= k) look b
   go-on t u = record { reads = go-at k t.reads refl u.reads }
 
+  -- a reader whose fault is known, which is handed on
+  pub stop-on : {R S : Type 0} {see : R → A × ℕ} {look : S → B × ℕ} {x : Fault} {b : Result S Fault} → Finds s at q see (Err x) → IsErr b × IsErrAnd b (λ y. y ≡ x)
+      → Finds s at (q >>= k) look b
+  stop-on {x = x} {b = b} t h = record { reads = rw (handed b h) (halts x t.reads refl) }
+
 -- what may be absent, and must be there
 module _ {A B T S : Type 0} {s : List ℕ} {at : ℕ} (k : A → Reader B) (f : T → A) (o : Maybe T) {look : S → B × ℕ} {r : Result T Fault} {b : Result S Fault} where
   pub absent : {w : _} {x : _} → r ≡ ok_or o NoMatch → r ≡ result_from_control_flow w → w ≡ Break x → IsErr b × IsErrAnd b (λ y. y ≡ x.0) → Finds s at (or_miss (held_as f o) >>= k) look b

@@ -139,15 +139,15 @@ module _ (s : List ℕ) (e i : ℕ) where
   part-here : i < e → e ≤ length s → slice i e s ≡ get_or s i 0 ∷ slice (i + 1) e s
   part-here h k = rw add-one (slice-cons i e s 0 h k)
 
-  module _ (h : i < e) {d : ℕ} (f : d ≡ unit (get_or s i 0)) (v : ℕ) where
-    pub go-digit : d ≤ 9 → e ≤ length s → go_on v (slice i e s) ≡ go_on (v * 10 + d) (slice (i + 1) e s)
-    go-digit j k =
+  module _ (h : i < e) (v : ℕ) {d : ℕ} where
+    pub go-digit : d ≤ 9 → d ≡ unit (get_or s i 0) → e ≤ length s → go_on v (slice i e s) ≡ go_on (v * 10 + d) (slice (i + 1) e s)
+    go-digit j f k =
         let t : is_digit (get_or s i 0) ≡ true = unit-digit (get_or s i 0) (omega arith) in
         let z : get_or s i 0 - 48 ≡ d = omega (arith, unit-is (get_or s i 0) t) in
         rw (part-here h k, t) (ap (λ (x : ℕ). go_on (v * 10 + x) (slice (i + 1) e s)) z)
 
-    pub go-none : 9 < d → e ≤ length s → go_on v (slice i e s) ≡ none
-    go-none j k =
+    pub go-none : 9 < d → d ≡ unit (get_or s i 0) → e ≤ length s → go_on v (slice i e s) ≡ none
+    go-none j f k =
         let t : is_digit (get_or s i 0) ≡ false = unit-none (get_or s i 0) (omega arith) in
         rw (part-here h k, t)
 

@@ -4,8 +4,9 @@ use mathlib.Core.Path.{◌≡◌, refl, sym}
 use mathlib.Core.Bool.{Bool, true, false, cond, ◌||◌}
 use mathlib.Core.List.{List, [], ◌∷◌}
 use lib.Dec.{eqb}
-use lib.ListN.{length, drop, get_or}
+use lib.ListN.{length, take, drop, get_or}
 use Rattle.std.specs.List.{list_any}
+use Rattle.std.proofs.lemmas.List.{take_all}
 use borrow.Author.Tests.{eqb-true, eqb-false, eq-eqb, ne_eqb}
 use Rattle.text.specs.Reader.{miss, got, one_of, among, letter_of}
 use Rattle.text.proofs.Places.{here, ended}
@@ -67,3 +68,7 @@ pub among-any : (b : ℕ) (letters : List ℕ) → list_any (λ y. eqb y b) lett
 unfolding among
 among-any b [] = refl
 among-any b (c ∷ cs) = rw (among-cons b c cs, among-any b cs)
+
+-- a part of the letters that leaves none out is the letters
+pub none-out : (letters : List ℕ) (m k : ℕ) → m ≡ 0 → length letters ≤ k → take k (drop m letters) ≡ letters
+none-out letters m k e h = rw e (take_all k letters h)

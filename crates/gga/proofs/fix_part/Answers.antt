@@ -1,5 +1,8 @@
 -- `fix_part` meets its contract: time, position, fix and satellites. Assumes nothing.
-use Rattle.text.proofs.Finding.{finding}
+use native.Mathlib.Omega.{arith}
+use mathlib.Core.Path.{◌≡◌}
+use Rattle.std.specs.Prelude.{Ok, Err}
+use Rattle.text.proofs.Finding.{finding, stop-on}
 use Rattle.gga.specs.Gga.{fix_part}
 use Rattle.gga.proofs.fix_part.Goals as goal
 
@@ -9,16 +12,28 @@ returns-in_err-time c = search finding depth 14 fits 5000
 
 pub returns-in_err-position : goal.returns-in_err-position
 unfolding fix_part
-returns-in_err-position c = search finding depth 14 fits 5000
+returns-in_err-position c =
+    let e : c.position_place.result ≡ Err c.in_err-position.field-0.0 = grind arith in
+    let t = rw e at c.position_place.ensures in
+    search (finding, stop-on) depth 14 fits 5000
 
 pub returns-in_err-quality : goal.returns-in_err-quality
 unfolding fix_part
-returns-in_err-quality c = search finding depth 14 fits 5000
+returns-in_err-quality c =
+    let e : c.position_place.result ≡ Ok (c.in_ok-position.position, c.in_ok-position.at) = grind arith in
+    let t = rw e at c.position_place.ensures in
+    search finding depth 14 fits 5000
 
 pub returns-in_err-satellites : goal.returns-in_err-satellites
 unfolding fix_part
-returns-in_err-satellites c = search finding depth 14 fits 5000
+returns-in_err-satellites c =
+    let e : c.position_place.result ≡ Ok (c.in_ok-position.position, c.in_ok-position.at) = grind arith in
+    let t = rw e at c.position_place.ensures in
+    search finding depth 14 fits 5000
 
 pub returns : goal.returns
 unfolding fix_part
-returns c = search finding depth 14 fits 5000
+returns c =
+    let e : c.position_place.result ≡ Ok (c.in_ok-position.position, c.in_ok-position.at) = grind arith in
+    let t = rw e at c.position_place.ensures in
+    search finding depth 14 fits 5000

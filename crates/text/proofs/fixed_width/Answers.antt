@@ -25,26 +25,26 @@ returns-then-s-at-ne43 g c =
 
 pub loop-i-init : goal.loop-i-init
 loop-i-init g c =
-    let lead : Lead (get_or c.args.s.now c.args.at 0) c.if-value-gt9.value = elim c.if-value-gt9.branch [ then-value-gt9+else-s-at-ne43 w ↦ plus-leads _ w.if-s-at-ne43.false w.value-is | else-value-gt9 w ↦ digit-leads _ c.unit-value.ensures w.if-value-gt9.false w.value-is ] in
+    let lead : Lead (get_or c.args.s.now c.args.at 0) c.if-value-gt9.value = elim c.if-value-gt9.branch [ then-value-gt9+else-s-at-ne43 w ↦ plus-leads _ w.if-s-at-ne43.false (grind arith) | else-value-gt9 w ↦ digit-leads _ c.unit-value.ensures w.if-value-gt9.false w.value-is ] in
     let small : c.if-value-gt9.value ≤ 9 = lead.small in
     (omega arith, fixed-lead _ _ _ c.if-s.false c.if-s-at.false c.requires lead)
 
 pub returns-then-d-gt9 : goal.returns-then-d-gt9
 returns-then-d-gt9 g c =
-    let rest = go-none _ _ _ c.loop-i-test.true c.unit-d.ensures c.loop-i.value c.if-d-gt9.true (omega arith) in
+    let rest = go-none c.args.s.now _ _ c.loop-i-test.true c.loop-i.value c.if-d-gt9.true (grind arith) (omega arith) in
     record { reads = no-read (rw rest at c.loop-i.invariant.1) }
 
 pub returns-then-value-gt255 : goal.returns-then-value-gt255
 returns-then-value-gt255 g c =
-    let rest = go-digit _ _ _ c.loop-i-test.true c.unit-d.ensures c.loop-i.value c.if-d-gt9.false (omega arith) in
+    let rest = go-digit c.args.s.now _ _ c.loop-i-test.true c.loop-i.value c.if-d-gt9.false (grind arith) (omega arith) in
     let a = c.args in
     let end = a.at + g.row.N in
-    record { reads = no-read (rw rest at c.loop-i.invariant.1 ∙ go-over _ (slice (c.loop-i.i + 1) end a.s.now) (drop end a.s.now) c.if-value-gt255.true) }
+    record { reads = no-read (rw rest at c.loop-i.invariant.1 ∙ go-over _ (slice (c.loop-i.i + 1) end a.s.now) (drop end a.s.now) (grind arith)) }
 
 pub loop-i-preserved : goal.loop-i-preserved
 loop-i-preserved g c =
-    let rest = go-digit _ _ _ c.loop-i-test.true c.unit-d.ensures c.loop-i.value c.if-d-gt9.false (omega arith) in
-    (omega arith, rw rest at c.loop-i.invariant.1)
+    let rest = go-digit c.args.s.now _ _ c.loop-i-test.true c.loop-i.value c.if-d-gt9.false (grind arith) (omega arith) in
+    (omega arith, grind arith)
 
 pub returns : goal.returns
 returns g c =

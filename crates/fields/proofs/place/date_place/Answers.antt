@@ -1,12 +1,21 @@
 -- `date_place` meets its contract: a date that may be absent, and a comma. Assumes nothing.
-use Rattle.text.proofs.Finding.{finding}
+use native.Mathlib.Omega.{arith}
+use mathlib.Core.Path.{◌≡◌}
+use Rattle.std.specs.Prelude.{Ok, Err}
+use Rattle.text.proofs.Finding.{finding, stop-on}
 use Rattle.fields.specs.Place.{with_comma}
 use Rattle.fields.proofs.place.date_place.Goals as goal
 
 pub returns-in_err-at : goal.returns-in_err-at
 unfolding with_comma
-returns-in_err-at c = search finding depth 14
+returns-in_err-at c =
+    let e : c.byte.result ≡ Err c.in_err-at.field-0.0 = grind arith in
+    let t = rw e at c.byte.ensures in
+    search (finding, stop-on) depth 14
 
 pub returns : goal.returns
 unfolding with_comma
-returns c = search finding depth 14
+returns c =
+    let e : c.byte.result ≡ Ok c.in_ok-at.at = grind arith in
+    let t = rw e at c.byte.ensures in
+    search finding depth 14
